@@ -196,7 +196,8 @@ where
     P: Predictor<16, Symbol = bool, Model = Bit>,
     requires { P.state decoding.old ≡ P.state encoding.old }
     ensures back { IfOk result (λ again. again.items ≡ bytes.now) }
-    ensures learned { OnOk result (P.state decoding.new ≡ P.state encoding.new) }
+    ensures learned { OnOk result (P.state encoding.new ≡ fold P.next (P.state encoding.old) (all_bits bytes.now)) }
+    ensures one_state { OnOk result (P.state decoding.new ≡ P.state encoding.new) }
 {
     bytes_are_read_once::<P>();
     let words = encode_bytes(alloc, encoding, bytes)?;

@@ -1,6 +1,6 @@
 //! Symbols whose models are learned: what comes back, a predictor of a caller's own, and what errors leave.
 
-ghost use Rattle.std.specs.Prelude.{◌≡◌, ◌<◌, ℕ, List, OnSome, refl};
+ghost use Rattle.std.specs.Prelude.{◌≡◌, ◌<◌, ℕ, List, OnSome, fold, refl};
 ghost use Rattle.constriction.specs.Rows.{Row};
 ghost use Rattle.constriction_adaptive.specs.Categorical.{even_lefts};
 
@@ -77,7 +77,7 @@ fn letters(rt: &impl Abort, alloc: Global, weights: [u32; 3]) -> Letters {
 
 const SYMBOLS: [usize; 7] = [0, 2, 1, 1, 0, 2, 0];
 
-/// A caller knows from the contract that both predictors end in one state.
+/// A caller knows from the contract that both predictors have learned the symbols.
 fn message_back<P, const PRECISION: usize>(
     alloc: Global,
     encoding: &mut P,
@@ -88,7 +88,8 @@ where
     P: Predictor<PRECISION>,
     P::Symbol: Drop,
     requires { P.state decoding.old ≡ P.state encoding.old }
-    ensures { OnSome result (P.state decoding.new ≡ P.state encoding.new) }
+    ensures learned { OnSome result (P.state encoding.new ≡ fold P.next (P.state encoding.old) symbols.now) }
+    ensures one_state { OnSome result (P.state decoding.new ≡ P.state encoding.new) }
 {
     match queue::message_comes_back(alloc, encoding, decoding, symbols) {
         Ok(answers) => Some(answers),

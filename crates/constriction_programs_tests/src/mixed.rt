@@ -1,20 +1,21 @@
 //! What callers who code bytes by a mixer, or by the byte before, learn from contracts alone. A body that answers otherwise does not meet
 //! these contracts.
 
-ghost use Rattle.std.specs.Prelude.{◌≡◌, ◌≢◌, [], ◌∷◌, ℕ, List, Err, IfOk, length};
+ghost use Rattle.std.specs.Prelude.{◌≡◌, ◌≢◌, [], ◌∷◌, ℕ, List, Err, IfOk, OnOk, fold, length};
 ghost use Rattle.std.specs.Bool.{beq};
 ghost use Rattle.constriction_coders.specs.Places.{IsMessageFrom};
 ghost use Rattle.constriction_adaptive.specs.Bytes.{all_bits, AreReadFrom};
+ghost use Rattle.constriction_adaptive.specs.Contexts.{contexts_after, own_slot};
 ghost use Rattle.constriction_adaptive.specs.Mixer.{mixer_after, mixer_begun, mixer_rows};
 ghost use Rattle.constriction_adaptive.specs.Predicted.{entry_in};
 
-use crate::checks::holds;
+use crate::checks::{holds, same};
 use constriction::CoderError;
 use constriction::backends::Cursor;
 use constriction_adaptive::bytes::{
     bytes_are_read_once, bytes_come_back, decode_bytes, encode_bytes,
 };
-use constriction_adaptive::{Mixer, OrderOne};
+use constriction_adaptive::{Mixer, OrderOne, Predictor};
 use constriction_coders::queue::DecoderFrontendError;
 use std::alloc::{AllocError, Global};
 use std::convert::Infallible;
@@ -68,13 +69,20 @@ fn there_and_back(
     decoded(alloc, bytes.len(), words)
 }
 
-/// Encodes bytes and decodes as many, by the byte before, in one call.
-fn by_the_byte_before(alloc: Global, bytes: &[u8]) -> Result<Vec<u8>, AllocError>
-    ensures { IfOk result (λ again. again.items ≡ bytes.now) }
+/// Encodes bytes and decodes as many, by the byte before, in one call. Both predictors learn all bits of the bytes, and nothing else.
+fn by_the_byte_before(
+    alloc: Global,
+    encoding: &mut OrderOne,
+    decoding: &mut OrderOne,
+    bytes: &[u8],
+) -> Result<Vec<u8>, AllocError>
+    requires { ⟦<OrderOne as Predictor<16>>⟧.state decoding.old ≡ ⟦<OrderOne as Predictor<16>>⟧.state encoding.old }
+    ensures back { IfOk result (λ again. again.items ≡ bytes.now) }
+    ensures learned { OnOk result (⟦<OrderOne as Predictor<16>>⟧.state encoding.new
+        ≡ fold (contexts_after own_slot 256) (⟦<OrderOne as Predictor<16>>⟧.state encoding.old) (all_bits bytes.now)) }
+    ensures one_state { OnOk result (⟦<OrderOne as Predictor<16>>⟧.state decoding.new ≡ ⟦<OrderOne as Predictor<16>>⟧.state encoding.new) }
 {
-    let mut encoding = OrderOne::new(alloc)?;
-    let mut decoding = OrderOne::new(alloc)?;
-    bytes_come_back(alloc, &mut encoding, &mut decoding, bytes)
+    bytes_come_back(alloc, encoding, decoding, bytes)
 }
 
 #[test]
@@ -89,9 +97,29 @@ fn bytes_come_back_by_a_mixer_of_three_contexts(rt: HostRuntime) {
 
 #[test]
 fn bytes_come_back_in_one_call(rt: HostRuntime) {
-    let text = b"abcabcabcabd";
-    match by_the_byte_before(rt.alloc(), text) {
+    let alloc = rt.alloc();
+    let text = b"abcabcabcabcabcabcabcabcabcabcabcabcabd";
+    let (Ok(mut encoding), Ok(mut decoding), Ok(mut other)) = (
+        OrderOne::new(alloc),
+        OrderOne::new(alloc),
+        OrderOne::new(alloc),
+    ) else {
+        panic!(rt; "memory was refused");
+    };
+    match by_the_byte_before(alloc, &mut encoding, &mut decoding, text) {
         Ok(again) => holds(&rt, &again, text),
         Err(_) => panic!(rt; "nothing came back"),
+    }
+    let (Ok(words), Ok(at_first)) = (
+        encode_bytes(alloc, &mut encoding, text),
+        encode_bytes(alloc, &mut other, text),
+    ) else {
+        panic!(rt; "memory was refused");
+    };
+    same(&rt, words.len() < at_first.len(), true);
+    let words = Cursor::new_at_write_beginning(words);
+    match decode_bytes(alloc, &mut decoding, text.len(), words) {
+        Ok(again) => holds(&rt, &again, text),
+        Err(_) => panic!(rt; "the text was not decoded by what both had learned"),
     }
 }

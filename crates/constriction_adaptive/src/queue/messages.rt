@@ -121,7 +121,8 @@ where
     P::Symbol: Drop,
     requires { P.state decoding.old ≡ P.state encoding.old }
     ensures back { IfOk result (λ answers. AllZip (StandsForEqual P.Model.stands_for P.Model.symbol_eq) symbols.now answers.items) }
-    ensures learned { OnOk result (P.state decoding.new ≡ P.state encoding.new) }
+    ensures learned { OnOk result (P.state encoding.new ≡ fold P.next (P.state encoding.old) symbols.now) }
+    ensures one_state { OnOk result (P.state decoding.new ≡ P.state encoding.new) }
     ensures valid { result ≢ Err (MessageError.Decoding (CoderError.Frontend DecoderFrontendError.InvalidData)) }
     ensures err { (error : _) → result ≡ Err (MessageError.Encoding (CoderError.Frontend error)) → StopsPredicting P.next
         (entry_in P.rows P.Model.symbol_eq) symbols.now error (P.state encoding.old) (P.state encoding.new) }

@@ -1,6 +1,6 @@
 //! Several symbols, and what comes back from a stack.
 
-ghost use Rattle.std.specs.Prelude.{◌≡◌, ◌⊎◌, Err, OnOk, IfOk, IfErr, length};
+ghost use Rattle.std.specs.Prelude.{◌≡◌, ◌⊎◌, Err, OnOk, IfOk, IfErr, fold, length};
 ghost use Rattle.std.specs.Allocator.{alloc_error};
 ghost use Rattle.std.specs.List.{AllZip};
 ghost use Rattle.constriction_model.specs.Coding.{StandsForEqual};
@@ -120,7 +120,8 @@ where
     Backend: WordStack<u32>,
     requires { P.state decoding.old ≡ P.state encoding.old }
     ensures back { IfOk result (λ answers. AllZip (StandsForEqual P.Model.stands_for P.Model.symbol_eq) symbols.now answers.items) }
-    ensures learned { OnOk result (P.state decoding.new ≡ P.state encoding.new) }
+    ensures learned { OnOk result (P.state encoding.new ≡ fold P.next (P.state encoding.old) symbols.now) }
+    ensures one_state { OnOk result (P.state decoding.new ≡ P.state encoding.new) }
     ensures same { OnOk result (held_by coder.new ≡ held_by coder.old) }
     ensures err { (error : _) → result ≡ Err (MessageError.Encoding error) → StackingStops P.next (entry_in P.rows P.Model.symbol_eq)
         PRECISION symbols.now error (P.state encoding.old) (held_by coder.old) (P.state encoding.new) (held_by coder.new) }

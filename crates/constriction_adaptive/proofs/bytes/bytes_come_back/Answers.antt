@@ -13,8 +13,8 @@ returns-in-Ok-clause-back g c =
     rw c.requires c.in_ok-words.ensures.read in
     c.bytes_are_read_once.ensures first c.in-Ok.again.items c.args.bytes.now words (c.in-Ok.ensures.ok words known) read c.in-Ok.ensures.count
 
-pub returns-in-Ok-clause-learned : goal.returns-in-Ok-clause-learned
-returns-in-Ok-clause-learned g c =
+pub returns-in-Ok-clause-one_state : goal.returns-in-Ok-clause-one_state
+returns-in-Ok-clause-one_state g c =
     c.in-Ok.ensures.learned
     ∙ ap (λ bytes. fold g.P.Predictor.next (g.P.Predictor.state c.args.decoding.now) (all_bits bytes)) (returns-in-Ok-clause-back g c)
     ∙ ap (λ s. fold g.P.Predictor.next s (all_bits c.args.bytes.now)) c.requires ∙ sym c.in_ok-words.ensures.learned

@@ -17,7 +17,8 @@ returns-in-Ok-decode_message g c =
     let both = c.in-Ok-decode_message.ensures.back c.args.symbols.now words [] refl message (λ k d h. absurd (omega (arith, h))) known in
     record {
       back = both.0;
-      learned = both.1 ∙ ap (λ s. fold g.P.Predictor.next s c.args.symbols.now) c.requires ∙ sym c.in-Ok.ensures.learned;
+      learned = c.in-Ok.ensures.learned;
+      one_state = both.1 ∙ ap (λ s. fold g.P.Predictor.next s c.args.symbols.now) c.requires ∙ sym c.in-Ok.ensures.learned;
       valid = λ is. cc;
       err = λ error is. cc;
       refused = λ error is. cc;

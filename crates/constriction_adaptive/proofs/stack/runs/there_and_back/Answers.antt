@@ -21,7 +21,8 @@ returns-in-Ok-decode_adaptively g c =
     (held_by c.encode_adaptively.new.coder) (held_by c.decode_adaptively.new.coder)) c.requires coded.led)
     c.in-Ok-decode_adaptively.ensures.count in record {
       back = both.0;
-      learned =
+      learned = stacked.learned;
+      one_state =
           coded.learned ∙ ap (λ s. fold next s answers) c.requires
           ∙ same-state next (StandsForEqual Stands eq) g.met.P.Predictor.next_law first symbols answers both.0 ∙ sym stacked.learned;
       same = both.1;
