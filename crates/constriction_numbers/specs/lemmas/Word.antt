@@ -18,5 +18,6 @@ same-above-0 made {m} h k e = subst (λ j. (q : 0 < j) → made m h ≡ made j q
 pub lt-whole : (a b : ℕ) → IsTrue (partial_lt (λ x y. Some (nat_cmp x y)) a b) ↔ (a < b)
 lt-whole a b = grind (arith, common_steps)
 
+-- the same of `<=`
 pub le-whole : (a b : ℕ) → IsTrue (partial_le (λ x y. Some (nat_cmp x y)) a b) ↔ (a ≤ b)
 le-whole a b = grind (arith, common_steps)
