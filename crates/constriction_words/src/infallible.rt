@@ -22,7 +22,7 @@ impl<T> UnwrapInfallible<T> for Result<T, Infallible> {
     fn unwrap_infallible(self) -> T {
         match self {
             Ok(x) => x,
-            Err(infallible) => match infallible {},
+            Err(error) => match error {},
         }
     }
 }
