@@ -7,9 +7,11 @@ use Rattle.std.proofs.Props.{props}
 use Rattle.std.proofs.lemmas.List.{with_items_is}
 
 module _ {X Z : Type 0} (v : Vec X Z) where
+  -- a vector that is given as many items as it had has these
   pub with_items_stand : (ws : List X) → length ws ≡ length v.items → (with_items v ws).items ≡ ws
   with_items_stand ws same = with_items_is v ws (same ∙ sym v.ok.0)
 
+  -- it has as many as before, whatever it is given
   pub with_items-length : (ws : List X) → length (with_items v ws).items ≡ length v.items
   with_items-length ws = sym (with_items v ws).ok.0 ∙ v.ok.0
 
@@ -27,9 +29,11 @@ module _ {X Z : Type 0} (v : Vec X Z) where
   made_same xs ys k l e =
       subst (λ (zs : List X). (m : Fits zs) → made xs k ≡ made zs m) e (λ m. ap (made xs) (Fits-prop xs k m)) l
 
+  -- a vector that is given its own items is unchanged
   pub with_items_unchanged : with_items v v.items ≡ v
   with_items_unchanged = made_same _ _ (with_items v v.items).ok v.ok (with_items_stand v.items refl)
 
+  -- of two lists of items that it is given, one after the other, the second counts
   pub with_items_again : (ws vs : List X) → length vs ≡ length v.items → with_items (with_items v ws) vs ≡ with_items v vs
   with_items_again ws vs same =
       made_same _ _ (with_items (with_items v ws) vs).ok (with_items v vs).ok
