@@ -67,6 +67,7 @@ module _ {I S A : Type 0} (steps : I → Option A → I → Type 0) (done : S �
   words-end t u (r ∷ rs) d (j, g, k) =
       let here = word-end t r j d g in All-cons (λ q. q ≡ Ok None) r rs here.0 (words-end j u rs here.1 k)
 
+  -- a source over words that has ended gives no word later
   pub word-end-is-for-good : {E : Type 0} → EndIsForGood {E = E} (GivesWord Fused)
   word-end-is-for-good s t u later h k = words-end t u later h.1 k
 
@@ -120,9 +121,11 @@ module _ {I S W E : Type 0} (steps : I → Option (Result W E) → I → Type 0)
   items-end t u (r ∷ rs) d (j, g, k) =
       let here = item-end t r j d g in All-cons (λ q. q ≡ Ok None) r rs here.0 (items-end j u rs here.1 k)
 
+  -- the same of a source over results
   pub item-end-is-for-good : EndIsForGood (λ s r t. Fused steps done source s (item_of r) t)
   item-end-is-for-good s t u later h k = items-end t u later h.1 k
 
+  -- each read of a word leaves one less to come
   pub item-counted : (left : S → ℕ) (none_left : (t : S) → done t ≡ true → left t ≡ 0) (s : S) (r : Result (Option W) E) (t : S)
       → CountsDown {W = W} (Fused steps done source) left (λ _ _. ⊥) (left s) s → Fused steps done source s (item_of r) t
       → CountsRead (left s) r (left t) × CountsDown {W = W} (Fused steps done source) left (λ _ _. ⊥) (left t) t

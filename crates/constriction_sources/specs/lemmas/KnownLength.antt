@@ -137,10 +137,12 @@ module _ {A : Type 0} where
   slice_answers : (i : Copied (Iter A)) → (o : Option A) × (j : Copied (Iter A)) × Copies i o j
   slice_answers i = slice_answers_at i (iter_rest (copied_source i)) refl
 
+  -- a source over the words of a slice knows how many are left
   pub slice-words-exact : (s : Fuse (Copied (Iter A)))
       → IsExact Copies (λ i. at_most (slice_length i)) (AlwaysYields (fuse_steps Copies) (λ w. w)) s
   slice-words-exact = words-exact Copies slice_length slice_stops slice_goes slice_answers
 
+  -- so does one over its items
   pub slice-items-exact : (W : Type 0) (s : Fuse (Copied (Iter A)))
       → IsExact {W = W} Copies (λ i. at_most (slice_length i)) (λ _ _. ⊥) s
   slice-items-exact = items-exact Copies slice_length slice_stops slice_goes
@@ -167,6 +169,7 @@ range_answers_at i (suc n) e =
 range_answers : (i : Range ℕ) → (o : Option ℕ) × (j : Range ℕ) × Counts i o j
 range_answers i = range_answers_at i (range_length i) refl
 
+-- so does one over a range
 pub range-words-exact : (s : Fuse (Range ℕ))
     → IsExact Counts (λ i. at_most (range_length i)) (AlwaysYields (fuse_steps Counts) (λ w. w)) s
 range-words-exact = words-exact Counts range_length range_stops range_goes range_answers

@@ -55,11 +55,13 @@ always_room false = tt
 
 -- if a stack tells its words and no others, a step does to its words what it does to the lists that the stack tells
 module _ {S W E : Type 0} (tells : S → List W → Type 0) (words_of : S → List W) (old : List W) where
+  -- a write that appends to the words that a stack holds pushes one
   pub known_pushes : ((s : S) (words : List W) → tells s words → words ≡ words_of s) → (w : W) (r : Result (Unit {0}) E) (t : S)
       → WritesAppend tells old w r t → Pushes old w r (words_of t)
   known_pushes no_others w (Ok x) t h = sym (no_others t (old ++ w ∷ []) h)
   known_pushes no_others w (Err e) t h = sym (no_others t old h)
 
+  -- a read of the words that a stack holds, last first, pops one, or fails
   pub known_pops : ((s : S) (words : List W) → tells s words → words ≡ reverse (words_of s)) → (r : Result (Option W) E) (t : S)
       → ReadsUpcoming tells (reverse old) r t → PopsOrFails old r (words_of t)
   known_pops no_others (Ok None) t h = (
