@@ -10,6 +10,7 @@ use Rattle.constriction_backends.specs.lemmas.Cursor.{same_cursor}
 use Rattle.constriction_backends.specs.CursorState.{State, reversal, StackReads, QueueReads}
 use Rattle.constriction_sources.specs.Sink.{Writes}
 
+-- the reversal of the reversal of a state is the state
 pub reversal-twice : {W : Type 0} (s : State W) → reversal (reversal s) ≡ s
 reversal-twice {W = W} s =
     let made = λ (b a : List W). let u : State W = record { before = b; after = a } in u in
@@ -29,6 +30,7 @@ queue-to_stack s (Ok (Some w)) t h =
     (ap reverse h.0 ∙ reverse-append (w ∷ []) t.after, ap reverse h.1 ∙ reverse-append s.before (w ∷ []))
 queue-to_stack s (Err x) t h = absurd h
 
+-- a reversal reads as a queue what the state reads as a stack, and the other way round
 pub reversal-reads : {W E : Type 0} (s : State W)
     → ((r : Result (Option W) E) (t : State W)
     → (StackReads s r t ↔ QueueReads (reversal s) r (reversal t)) × (QueueReads s r t ↔ StackReads (reversal s) r (reversal t)))
@@ -43,6 +45,7 @@ reversal-reads {W} {E} s =
     (λ r t. ((stack-to_queue s r t, back_stack r t), (queue-to_stack s r t, back_queue r t)), sym (reverse-reverse s.after), refl)
 
 module _ {W B : Type 0} {g : Ghosts B W} where
+  -- a cursor can seek back to a position that it had, with as many words as then
   pub cursor_seeks_back : (taken later : Cursor W B g) (r : Result (Unit {0}) (Unit {0})) (t : Cursor W B g)
       → length (g.words_of later.buf) ≡ length (g.words_of taken.buf) → SeeksTo later taken.pos r t
       → IsOk r × (t.pos ≡ taken.pos) × (t.buf ≡ later.buf)
@@ -52,6 +55,7 @@ module _ {W B : Type 0} {g : Ghosts B W} where
       let past : length (g.words_of later.buf) < taken.pos = h.0 in
       absurd (omega arith)
 
+  -- a cursor that seeks its own position stays as it is
   pub seek_stays : (c : Cursor W B g) (r : Result (Unit {0}) (Unit {0})) (t : Cursor W B g) → SeeksTo c c.pos r t → IsOk r × (t ≡ c)
   seek_stays c (Ok x) t h = (search, same_cursor c t h.1 h.2)
   seek_stays c (Err x) t h =

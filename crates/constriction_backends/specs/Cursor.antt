@@ -14,8 +14,8 @@ module _ {W B : Type 0} {g : Ghosts B W} (c : Cursor W B g) where
   pos_of = c.pos
 
   -- the buffer and the position, which make up a cursor
-  abbrev pub parts_of : B × ℕ
-  parts_of = (c.buf, c.pos)
+  abbrev pub buf_and_pos : B × ℕ
+  buf_and_pos = (c.buf, c.pos)
 
   -- the words of the buffer, cut at the position
   abbrev pub state_of : State W

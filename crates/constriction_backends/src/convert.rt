@@ -1,7 +1,7 @@
 //! Values that turn into sources, or lend them.
 
 ghost use Rattle.std.specs.Prelude.{◌≡◌, length};
-ghost use Rattle.constriction_backends.specs.Cursor.{buf_of, pos_of, parts_of};
+ghost use Rattle.constriction_backends.specs.Cursor.{buf_of, pos_of, buf_and_pos};
 
 use crate::cursor::Cursor;
 use constriction_buffers::SafeBuf;
@@ -69,7 +69,7 @@ pub trait AsSeekReadWords<'a, Word, S: Semantics>: 'a {
 impl<Word: Copy, Buf: SafeBuf<Word>> IntoReadWords<Word, Stack> for Buf {
     type IntoReadWords = Cursor<Word, Buf>;
 
-    ghost into_read_words_gives = { λ s r. parts_of r ≡ (s, length (Buf.words_of s)) };
+    ghost into_read_words_gives = { λ s r. buf_and_pos r ≡ (s, length (Buf.words_of s)) };
 
     #[inline]
     fn into_read_words(self) -> Cursor<Word, Buf> {
@@ -80,7 +80,7 @@ impl<Word: Copy, Buf: SafeBuf<Word>> IntoReadWords<Word, Stack> for Buf {
 impl<Word: Copy, Buf: SafeBuf<Word>> IntoReadWords<Word, Queue> for Buf {
     type IntoReadWords = Cursor<Word, Buf>;
 
-    ghost into_read_words_gives = { λ s r. parts_of r ≡ (s, 0) };
+    ghost into_read_words_gives = { λ s r. buf_and_pos r ≡ (s, 0) };
 
     #[inline]
     fn into_read_words(self) -> Cursor<Word, Buf> {
@@ -91,7 +91,7 @@ impl<Word: Copy, Buf: SafeBuf<Word>> IntoReadWords<Word, Queue> for Buf {
 impl<Word: Copy, Buf: SafeBuf<Word>> IntoSeekReadWords<Word, Stack> for Buf {
     type IntoSeekReadWords = Cursor<Word, Buf>;
 
-    ghost into_seek_read_words_gives = { λ s r. parts_of r ≡ (s, length (Buf.words_of s)) };
+    ghost into_seek_read_words_gives = { λ s r. buf_and_pos r ≡ (s, length (Buf.words_of s)) };
 
     #[inline]
     fn into_seek_read_words(self) -> Cursor<Word, Buf> {
@@ -102,7 +102,7 @@ impl<Word: Copy, Buf: SafeBuf<Word>> IntoSeekReadWords<Word, Stack> for Buf {
 impl<Word: Copy, Buf: SafeBuf<Word>> IntoSeekReadWords<Word, Queue> for Buf {
     type IntoSeekReadWords = Cursor<Word, Buf>;
 
-    ghost into_seek_read_words_gives = { λ s r. parts_of r ≡ (s, 0) };
+    ghost into_seek_read_words_gives = { λ s r. buf_and_pos r ≡ (s, 0) };
 
     #[inline]
     fn into_seek_read_words(self) -> Cursor<Word, Buf> {

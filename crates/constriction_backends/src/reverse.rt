@@ -1,7 +1,7 @@
 //! A backend that is read in the other order. Over a cursor it reads, writes and counts words as a cursor in the `reversal` of the state
 //! does. Its reads are the backend's own, so for them the law `reversal_reads` says this.
 
-ghost use Rattle.std.specs.Prelude.{◌≡◌, ◌<◌, ◌↔◌, refl, true, length, reverse, IsOk};
+ghost use Rattle.std.specs.Prelude.{◌≡◌, ◌<◌, ◌↔◌, refl, true, length, IsOk};
 ghost use Rattle.std.proofs.Common.{sym, ◌∙◌};
 ghost use Rattle.std.proofs.lemmas.List.{reverse-reverse};
 ghost use Rattle.constriction_backends.specs.Cursor.{pos_of, state_of, PutsAt, TurnsRound};

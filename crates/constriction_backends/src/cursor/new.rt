@@ -1,7 +1,7 @@
 //! Constructors of cursors.
 
 ghost use Rattle.std.specs.Prelude.{◌≡◌, ◌≤◌, ◌↔◌, length, IfOk, IsOk};
-ghost use Rattle.constriction_backends.specs.Cursor.{buf_of, pos_of, parts_of};
+ghost use Rattle.constriction_backends.specs.Cursor.{buf_of, pos_of, buf_and_pos};
 
 use crate::cursor::Cursor;
 use constriction_buffers::{SafeBuf, SafeBufMut};
@@ -12,7 +12,7 @@ impl<Word, Buf: SafeBuf<Word>> Cursor<Word, Buf> {
     /// A cursor before the first word: nothing was written, and a queue reads from the beginning.
     #[inline]
     pub fn new_at_write_beginning(buf: Buf) -> Self
-        ensures { parts_of result ≡ (buf, 0) }
+        ensures { buf_and_pos result ≡ (buf, 0) }
     {
         Cursor {
             buf,
@@ -24,7 +24,7 @@ impl<Word, Buf: SafeBuf<Word>> Cursor<Word, Buf> {
     /// A cursor after the last word: everything was written, and a stack reads from the end.
     #[inline]
     pub fn new_at_write_end(buf: Buf) -> Self
-        ensures { parts_of result ≡ (buf, length (Buf.words_of buf)) }
+        ensures { buf_and_pos result ≡ (buf, length (Buf.words_of buf)) }
     {
         let pos = buf.words().len();
         Cursor {
@@ -40,7 +40,7 @@ impl<Word, Buf: SafeBuf<Word>> Cursor<Word, Buf> {
     where
         Buf: Drop,
         ensures in_range { IsOk result ↔ (pos ≤ length (Buf.words_of buf)) }
-        ensures ok { IfOk result (λ cursor. parts_of cursor ≡ (buf, pos)) }
+        ensures ok { IfOk result (λ cursor. buf_and_pos cursor ≡ (buf, pos)) }
     {
         if pos > buf.words().len() {
             Err(())
@@ -58,7 +58,7 @@ impl<Word, Buf: SafeBufMut<Word>> Cursor<Word, Buf> {
     /// As [`new_at_write_end`](Cursor::new_at_write_end), over a buffer that can be written.
     #[inline]
     pub fn new_at_write_end_mut(buf: Buf) -> Self
-        ensures { parts_of result ≡ (buf, length (Buf.words_of buf)) }
+        ensures { buf_and_pos result ≡ (buf, length (Buf.words_of buf)) }
     {
         Cursor::new_at_write_end(buf)
     }
@@ -69,7 +69,7 @@ impl<Word, Buf: SafeBufMut<Word>> Cursor<Word, Buf> {
     where
         Buf: Drop,
         ensures in_range { IsOk result ↔ (pos ≤ length (Buf.words_of buf)) }
-        ensures ok { IfOk result (λ cursor. parts_of cursor ≡ (buf, pos)) }
+        ensures ok { IfOk result (λ cursor. buf_and_pos cursor ≡ (buf, pos)) }
     {
         Cursor::new_at_pos(buf, pos)
     }

@@ -2,7 +2,7 @@
 
 ghost use Rattle.std.specs.Prelude.{◌≡◌, ◌++◌};
 ghost use Rattle.std.specs.Borrow.{Lends, follows, sem, Array};
-ghost use Rattle.constriction_backends.specs.Cursor.{buf_of, pos_of, parts_of, state_of, over, SeeksTo};
+ghost use Rattle.constriction_backends.specs.Cursor.{buf_of, pos_of, buf_and_pos, state_of, over, SeeksTo};
 
 use crate::cursor::Cursor;
 use crate::part::part_mut;
@@ -51,7 +51,7 @@ impl<Word, Buf: SafeBuf<Word>> Cursor<Word, Buf> {
     /// The buffer and the position.
     #[inline]
     pub fn into_buf_and_pos(self) -> (Buf, usize)
-        ensures { result ≡ parts_of self }
+        ensures { result ≡ buf_and_pos self }
     {
         let Cursor {
             buf,
