@@ -95,6 +95,7 @@ alike-rows {Symbol = Symbol} bits more precision rows others tile also alike =
     ((alike q r to).0 (subst (λ (zs : List (Row Symbol)). IsRowOf zs q r) (sym tile.in_order) found))) in
     tile.in_order ∙ same ∙ sym also.in_order
 
+-- two models answer alike where they have the same rows, and nowhere else
 pub equal-answers : {Symbol M N : Type 0} (bits more precision : ℕ) (rows : M → List (Row Symbol)) (others : N → List (Row Symbol))
     → ((m : M) → RowsTile bits precision (rows m)) → ((n : N) → RowsTile more precision (others n))
     → (m : M) (n : N) → AnswerAlike precision (rows m) (others n) ↔ (rows m ≡ others n)

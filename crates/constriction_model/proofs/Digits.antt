@@ -14,6 +14,7 @@ digits_in-same zero g (suc n) p q = absurd (omega arith)
 digits_in-same (suc f) zero (suc n) p q = absurd (omega arith)
 digits_in-same (suc f) (suc g) (suc n) p q = ap (λ k. 1 + k) (digits_in-same f g (suc n / 2) (omega arith) (omega arith))
 
+-- 0 has no binary digits
 pub digits-zero : digits 0 ≡ 0
 unfolding digits
 digits-zero = refl

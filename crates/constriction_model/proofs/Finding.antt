@@ -89,6 +89,7 @@ found_in {S = S} q (x ∷ xs) r e =
     here_or_further (holds q x) x r (find (holds q) xs) e (λ t same. at_first q x xs r t same)
     (λ later. further_on q x xs r (found_in q xs r later))
 
+-- the row that is found is the row of the quantile, and no other is
 pub find_iff : {S : Type 0} (bits precision : ℕ) (rows : List (Row S)) (q : ℕ) (r : Row S) → RowsTile bits precision rows
     → (find (holds q) rows ≡ Some r) ↔ IsRowOf rows q r
 find_iff bits precision rows q r tile = (found_in q rows r, find_row bits precision rows q r tile)
@@ -114,6 +115,7 @@ find_some {S = S} left (s ∷ ss) (w ∷ ws) q e from to =
     here_or_later true x rest h = refl
     here_or_later false x rest h = h
 
+-- a row is found for each quantile
 pub find_each : {S : Type 0} (bits precision : ℕ) (rows : List (Row S)) (q : ℕ) → RowsTile bits precision rows → q < 2 ^ precision
     → IsSome (find (holds q) rows)
 find_each {S = S} bits precision rows q tile below =

@@ -5,7 +5,7 @@ use Rattle.std.specs.List.Sorted.{IsStrictlyIncreasing}
 use Rattle.constriction_model.proofs.Digits.{digits-zero, digits_between, digits_ones, digits_step, digits_word}
 use Rattle.constriction_model.specs.Probe.{digits, IsSearchable, IsLastAtMost}
 use Rattle.constriction_model.specs.declared.probe.Probe.{Ghosts}
-use Rattle.constriction_model.specs.private.Searching.{IsNarrowed, MaySearch, Narrows, IsHalved}
+use Rattle.constriction_model.specs.private.Searching.{LiesAmong, MaySearch, Narrows, IsHalved}
 
 -- in a list that increases, each later element is greater
 pub later : (xs : List ℕ) (i j : ℕ) → IsStrictlyIncreasing xs → i < j → j < length xs → get_or xs i 0 < get_or xs j 0
@@ -16,10 +16,10 @@ later xs i (suc j) s h b = elim (cases_lt i j) [
 ]
 
 module _ (xs : List ℕ) (q : ℕ) (s : IsSearchable xs q) where
-  pub narrowed_all : IsNarrowed xs q 0 (length xs)
+  pub narrowed_all : LiesAmong xs q 0 (length xs)
   narrowed_all = record { some = s.some; within = omega arith; at_most = s.begins; above = λ h. absurd (omega arith) }
 
-  pub narrowed_one : (first size : ℕ) → IsNarrowed xs q first size → size ≤ 1 → IsLastAtMost xs q first
+  pub narrowed_one : (first size : ℕ) → LiesAmong xs q first size → size ≤ 1 → IsLastAtMost xs q first
   narrowed_one first size n h =
       let one : size ≡ 1 = omega (arith, n.some) in
       record {
@@ -32,8 +32,8 @@ module _ (xs : List ℕ) (q : ℕ) (s : IsSearchable xs q) where
       }
 
   -- if the row `size - left` rows after the first one begins above the quantile, its row is among the first `left` rows
-  pub narrowed_first : (first size left : ℕ) → IsNarrowed xs q first size → left < size → size ≤ 2 * left
-      → q < get_or xs (first + (size - left)) 0 → IsNarrowed xs q first left
+  pub narrowed_first : (first size left : ℕ) → LiesAmong xs q first size → left < size → size ≤ 2 * left
+      → q < get_or xs (first + (size - left)) 0 → LiesAmong xs q first left
   narrowed_first first size left n fewer half greater = record {
     some = omega arith;
     within = omega (arith, n.within);
@@ -55,27 +55,35 @@ halved_power k n more most = record {
 halved_one : (n : ℕ) → 1 < n → n ≤ 2 → IsHalved n 1
 halved_one = halved_power 0
 
+-- three or four rows are halved to two
 pub halved_two : (n : ℕ) → 2 < n → n ≤ 4 → IsHalved n 2
 halved_two = halved_power 1
 
+-- five to eight are halved to four
 pub halved_four : (n : ℕ) → 4 < n → n ≤ 8 → IsHalved n 4
 halved_four = halved_power 2
 
+-- nine to sixteen are halved to eight
 pub halved_eight : (n : ℕ) → 8 < n → n ≤ 16 → IsHalved n 8
 halved_eight = halved_power 3
 
+-- seventeen to 32 are halved to sixteen
 pub halved_sixteen : (n : ℕ) → 16 < n → n ≤ 32 → IsHalved n 16
 halved_sixteen = halved_power 4
 
+-- two rows are halved to one
 pub two_halved : IsHalved 2 1
 two_halved = halved_one 2 (omega arith) (omega arith)
 
+-- four are halved to two
 pub four_halved : IsHalved 4 2
 four_halved = halved_two 4 (omega arith) (omega arith)
 
+-- eight are halved to four
 pub eight_halved : IsHalved 8 4
 eight_halved = halved_four 8 (omega arith) (omega arith)
 
+-- sixteen are halved to eight
 pub sixteen_halved : IsHalved 16 8
 sixteen_halved = halved_eight 16 (omega arith) (omega arith)
 
@@ -88,9 +96,10 @@ module _ {P Word : Type 0} (g : Ghosts P Word) (rows : P) (q : Word) where
   -- a question whose answers both leave `left` of `size` rows
   module _ (first size left at : ℕ) (new : P) (may : MaySearch g rows q first size) (h : IsHalved size left) (at_is : at ≡ first + (size - left))
       (same : g.cumulatives new ≡ g.cumulatives rows) (counted : g.questions new ≡ g.questions rows + 1) where
-    asked : (next : ℕ) → IsNarrowed (g.cumulatives rows) (g.number q) next left → Narrows g rows q size new next left
+    asked : (next : ℕ) → LiesAmong (g.cumulatives rows) (g.number q) next left → Narrows g rows q size new next left
     asked next n = record { narrowed = rw same n; same = same; counted = omega (arith, counted, h.digit) }
 
+    -- the row asked about begins at or below the quantile: the search goes on from it
     pub asked_yes : get_or (g.cumulatives rows) at 0 ≤ g.number q → Narrows g rows q size new at left
     asked_yes before =
         let end : at + left ≡ first + size = omega (arith, at_is, h.fewer) in
@@ -101,6 +110,7 @@ module _ {P Word : Type 0} (g : Ghosts P Word) (rows : P) (q : Word) where
           above = rw end may.narrowed.above;
         })
 
+    -- it begins above the quantile: the search goes on before it
     pub asked_no : g.number q < get_or (g.cumulatives rows) at 0 → Narrows g rows q size new first left
     asked_no after =
         asked first (narrowed_first _ _ may.searchable first size left may.narrowed h.fewer h.half (rw at_is at after))
@@ -117,8 +127,10 @@ module _ {P Word : Type 0} (g : Ghosts P Word) (rows : P) (q : Word) where
 
   -- a search of all rows that came to one row found it
   module _ (new : P) (first left : ℕ) (n : Narrows g rows q (length (g.cumulatives rows)) new first left) (one : left ≤ 1) where
+    -- its row is the last one that begins at or below the quantile
     pub found : IsSearchable (g.cumulatives rows) (g.number q) → IsLastAtMost (g.cumulatives rows) (g.number q) first
     found searchable = narrowed_one _ _ searchable first left (rw (← n.same) n.narrowed) one
 
+    -- it asked as many questions as one less than the number of rows has binary digits
     pub counted_all : g.questions new ≡ g.questions rows + digits (length (g.cumulatives rows) - 1)
     counted_all = let none : left - 1 ≡ 0 = omega (arith, one) in omega (arith, rw (none, digits-zero) at n.counted)

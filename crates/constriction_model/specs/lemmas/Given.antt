@@ -97,6 +97,7 @@ at-ok (Err e) Q given so = tt
 module _ {J S Word Model : Type 0} {becomes : J → S → Type 0} {steps : S → Option Word → S → Type 0} {from : J} {whole : Word → ℕ}
     {Tells : Model → List ℕ → Type 0} (bits precision : ℕ) (infer : Bool)
     (word_of : (n : ℕ) → n < 2 ^ bits → (x : Word) × (whole x ≡ n)) where
+  -- what a constructor makes of what it read says what it does with the weights it is given
   pub decided-by_weights : (r : Result Model ModelError)
       → IsMadeOfWeights (IsAccepted bits precision) (completed precision infer) (WasReadOf becomes steps from) whole Tells r
       → IsDecidedByWeights (IsAccepted bits precision) (completed precision infer) becomes steps from whole Tells r
@@ -131,6 +132,7 @@ module _ {J S K T Symbol Word Model : Type 0} {becomes : J → S → Type 0} {st
     {Tells : Model → List Symbol → List ℕ → Type 0} (Accepted : List Symbol → List ℕ → Type 0) (bits precision : ℕ) (infer : Bool)
     (word_of : (n : ℕ) → n < 2 ^ bits → (x : Word) × (whole x ≡ n))
     (fits : (ss : List Symbol) (ns : List ℕ) → Accepted ss ns → All (λ n. n < 2 ^ bits) ns) where
+  -- the same of a constructor from symbols and weights
   pub decided-by_both : (r : Result Model ModelError)
       → IsMadeOfBoth Accepted (completed precision infer) (WasReadOf becomes steps from) (WasReadOf other_becomes other_steps other) whole
       Tells r

@@ -150,6 +150,7 @@ module _ {Symbol : Type 0} (eq : Symbol → Symbol → Bool) (entry : Symbol →
       (rows-within bits precision rows tile) is.below in
       omega (arith, is.sum)
 
+  -- entries that are those of the rows make quantiles one to one
   pub one-to-one : IsEquivalence eq → IsDistinct eq (symbols_of rows) → IsOneToOne eq entry precision rows
   one-to-one laws distinct = record {
     has_row = λ q below. has-row bits precision rows q tile below;
@@ -176,6 +177,7 @@ module _ {Symbol : Type 0} (eq : Symbol → Symbol → Bool) (entry : Symbol →
         agree s ∙ same-entry eq s t rows alike ∙ sym (agree t);
   }
 
+-- the same of the rows of a decoder and the entries of an encoder
 pub pairs-are-quantiles : {Symbol D E : Type 0} (eq : Symbol → Symbol → Bool) (bits precision : ℕ) (rows : D → List (Row Symbol))
     (encoder_rows : E → List (Row Symbol)) → ((m : D) → RowsTile bits precision (rows m)) → IsEquivalence eq
     → (d : D) (e : E) → IsDistinct eq (symbols_of (rows d)) → SameEntries eq (encoder_rows e) (rows d)

@@ -15,6 +15,7 @@ indices n = range_with_len 0 n
 
 -- ---- the rows of symbols and weights
 
+-- there are as many rows as weights
 pub length-rows_from : {S : Type 0} (l : ℕ) (ss : List S) (ws : List ℕ) → length ss ≡ length ws
     → length (rows_from l ss ws) ≡ length ws
 length-rows_from l [] [] e = refl
@@ -22,6 +23,7 @@ length-rows_from l [] (w ∷ ws) e = e
 length-rows_from l (s ∷ ss) [] e = refl
 length-rows_from l (s ∷ ss) (w ∷ ws) e = ap suc (length-rows_from (l + w) ss ws (omega arith))
 
+-- the weights of the rows are the weights they are made of
 pub weights-rows_from : {S : Type 0} (l : ℕ) (ss : List S) (ws : List ℕ) → length ss ≡ length ws
     → map (λ r. r.weight) (rows_from l ss ws) ≡ ws
 weights-rows_from l [] [] e = refl
@@ -29,6 +31,7 @@ weights-rows_from l [] (w ∷ ws) e = absurd (omega arith)
 weights-rows_from l (s ∷ ss) [] e = refl
 weights-rows_from l (s ∷ ss) (w ∷ ws) e = ap (λ xs. w ∷ xs) (weights-rows_from (l + w) ss ws (omega arith))
 
+-- their symbols are the symbols they are made of
 pub symbols-rows_from : {S : Type 0} (l : ℕ) (ss : List S) (ws : List ℕ) → length ss ≡ length ws
     → map (λ r. r.symbol) (rows_from l ss ws) ≡ ss
 symbols-rows_from l [] [] e = refl
@@ -36,6 +39,7 @@ symbols-rows_from l [] (w ∷ ws) e = refl
 symbols-rows_from l (s ∷ ss) [] e = absurd (omega arith)
 symbols-rows_from l (s ∷ ss) (w ∷ ws) e = ap (λ xs. s ∷ xs) (symbols-rows_from (l + w) ss ws (omega arith))
 
+-- the row at an index begins where the weights before it end
 pub rows_from-at : {S : Type 0} (l : ℕ) (ss : List S) (ws : List ℕ) (i : ℕ) (d : Row S) → length ss ≡ length ws → i < length ws
     → get_or (rows_from l ss ws) i d ≡ record { symbol = get_or ss i d.symbol; left = l + sum (take i ws); weight = get_or ws i 0 }
 rows_from-at l ss [] i d e h = absurd (omega arith)
@@ -60,6 +64,7 @@ found-one f true x = refl
 found-one f false x = refl
 
 module _ {S : Type 0} (eq : S → S → Bool) (s : S) where
+  -- a row in front of others gives an entry only to a symbol that they give none
   pub entry_of-cons : (r : Row S) (rs : List (Row S))
       → entry_of eq (r ∷ rs) s ≡ option_or (entry_of eq rs s) (cond (eq r.symbol s) (Some (r.left, r.weight)) None)
   entry_of-cons r rs =

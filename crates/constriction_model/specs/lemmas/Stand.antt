@@ -40,6 +40,7 @@ module _ {Symbol : Type 0} (Stands : Symbol → Symbol → Type 0) where
   weights-made (m ∷ ms) (r ∷ rs) h =
       ap (λ n. n ∷ map (λ x. x.weight) ms) h.0.2 ∙ ap (λ ns. r.weight ∷ ns) (weights-made ms rs h.1)
 
+  -- rows that stand for others have their left cumulatives
   pub lefts-made : (made rows : List (Row Symbol)) → StandForRows Stands made rows
       → map (λ r. r.left) made ≡ map (λ r. r.left) rows
   lefts-made [] [] h = refl
@@ -84,12 +85,15 @@ module _ {Symbol : Type 0} (Stands : Symbol → Symbol → Type 0) where
 
 module _ {Symbol Word Weight : Type 0} (Stands : Symbol → Symbol → Type 0) (whole : Word → ℕ) (base : Weight → Word)
     (x : Symbol × Word × Weight) (r : Row Symbol) (h : StandsForRow Stands whole base x r) where
+  -- its symbol stands for the row's
   pub its-symbol : Stands r.symbol x.0
   its-symbol = subst (λ (t : Row Symbol). Stands t.symbol x.0) h.2 h.1
 
+  -- its left cumulative is the row's
   pub its-left : whole x.1 ≡ r.left
   its-left = ap (λ (t : Row Symbol). t.left) h.2
 
+  -- its weight is the row's
   pub its-weight : whole (base x.2) ≡ r.weight
   its-weight = ap (λ (t : Row Symbol). t.weight) h.2
 
@@ -102,6 +106,7 @@ module _ {Symbol : Type 0} (Stands : Symbol → Symbol → Type 0) (same : Clone
       ∙ ap (λ n. record { symbol = r.symbol; left = n; weight = m.weight }) l
       ∙ ap (λ n. record { symbol = r.symbol; left = r.left; weight = n }) w
 
+  -- rows that stand for others are these
   pub same-rows : (made rows : List (Row Symbol)) → StandForRows Stands made rows → made ≡ rows
   same-rows [] [] h = refl
   same-rows [] (r ∷ rs) h = absurd h
@@ -110,6 +115,7 @@ module _ {Symbol : Type 0} (Stands : Symbol → Symbol → Type 0) (same : Clone
       ap (λ z. z ∷ ms) (same-one m r h.0.0 h.0.1 h.0.2) ∙ ap (λ zs. r ∷ zs) (same-rows ms rs h.1)
 
   module _ {Word Weight : Type 0} (whole : Word → ℕ) (base : Weight → Word) where
+    -- an answer that stands for a row is this row
     pub same-answer : (x : Symbol × Word × Weight) (r : Row Symbol) → StandsForRow Stands whole base x r → row_of whole base x ≡ r
     same-answer x r h = ap (λ s. row_of whole base (s, x.1, x.2)) (same h.0 x.0 h.1) ∙ h.2
 
@@ -147,6 +153,7 @@ module _ {Symbol : Type 0} (eq : Symbol → Symbol → Bool) (laws : IsEquivalen
       IsDistinct-cons eq t ts (all-apart s t ts ss z.0 z.1 (IsDistinct-head eq s ss d))
       (distinct-clones ts ss z.1 (IsDistinct-tail eq s ss d))
 
+  -- if no two symbols of rows are equal, no two of the clones are
   pub distinct-made : (made rows : List (Row Symbol)) → StandForRows Stands made rows → IsDistinct eq (symbols_of rows)
       → IsDistinct eq (symbols_of made)
   distinct-made made rows h d = distinct-clones (symbols_of made) (symbols_of rows) (symbols-stand Stands made rows h) d
@@ -178,6 +185,7 @@ module _ {Symbol : Type 0} (eq : Symbol → Symbol → Bool) (laws : IsEquivalen
 
 -- ---- if rows tile and no two of their symbols are equal, their symbols and weights are accepted, and give the rows again
 
+-- rows that tile, with symbols that differ, are made again of their symbols and weights
 pub tiling-rebuilds : {Symbol : Type 0} (eq : Symbol → Symbol → Bool) (bits precision : ℕ) (rows : List (Row Symbol))
     → RowsTile bits precision rows → IsDistinct eq (symbols_of rows)
     → AreAccepted eq bits precision (symbols_of rows) (map (λ r. r.weight) rows)

@@ -63,6 +63,7 @@ pub length-uniform_weights : (precision last : ℕ) → length (uniform_weights 
 length-uniform_weights precision last =
     ap length (weights-are precision last) ∙ length-with_last last (bin_of precision last) (rest_of precision last)
 
+-- there are as many rows as symbols
 pub length-uniform_rows : (precision last : ℕ) → length (uniform_rows precision (last + 1)) ≡ last + 1
 length-uniform_rows precision last =
     let ws : List ℕ = uniform_weights precision (last + 1) in
@@ -77,6 +78,7 @@ module _ (precision last : ℕ) (within : last < 2 ^ precision) where
   pub bins-fit : last * bin_of precision last + bin_of precision last ≤ 2 ^ precision
   bins-fit = omega (arith, div-add-mod' (2 ^ precision) (last + 1))
 
+  -- the last symbol has a quantile
   pub rest-positive : 0 < rest_of precision last
   rest-positive = omega (arith, bin-positive, bins-fit)
 
@@ -97,6 +99,7 @@ module _ (precision last : ℕ) (within : last < 2 ^ precision) where
             (omega (arith, bin-positive));
       }
 
+  -- the rows of a uniform model tile
   pub uniform-tiles : (bits : ℕ) → precision ≤ bits → 0 < last → RowsTile bits precision (uniform_rows precision (last + 1))
   uniform-tiles bits fits some =
       let ws : List ℕ = uniform_weights precision (last + 1) in
@@ -105,6 +108,7 @@ module _ (precision last : ℕ) (within : last < 2 ^ precision) where
       let accepted : IsAccepted bits precision ws = rw (weights-are precision last) (uniform-accepted bits fits some) in
       record { accepted = rw weights accepted; in_order = rw (weights, symbols) refl }
 
+  -- each of them has quantiles, all below 2 ^ precision
   pub uniform-within : (bits : ℕ) → precision ≤ bits → 0 < last → All (LiesWithin precision) (uniform_rows precision (last + 1))
   uniform-within bits fits some = rows-within bits precision (uniform_rows precision (last + 1)) (uniform-tiles bits fits some)
 

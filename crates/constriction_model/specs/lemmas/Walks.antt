@@ -135,11 +135,13 @@ module _ {Symbol Word Weight Refusal : Type 0} (Stands : Symbol → Symbol → T
         → AreRows Stands MayRefuse whole base items (rows_left t)
     gives-all-rows t items h = are-rows items (rows_left t) (drained t items h)
 
+    -- there are as many items as rows were left
     pub gives-as-many : (t : T) (items : List (Result (Symbol × Word × Weight) Refusal)) → Drains steps t items
         → length items ≡ length (rows_left t)
     gives-as-many t items h =
         sym (AllZip-long (StandsFor Stands MayRefuse whole base) items (rows_left t) (drained t items h))
 
+    -- the row of a quantile is in the symbol table, once
     pub answers-are-in-table : {M : Type 0} (bits precision : ℕ) (rows : M → List (Row Symbol))
         → ((m : M) → RowsTile bits precision (rows m)) → ((a b : Word) → whole a ≡ whole b → a ≡ b)
         → ((a b : Weight) → base a ≡ base b → a ≡ b)
