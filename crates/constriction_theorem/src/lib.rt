@@ -3,8 +3,8 @@
 //!
 //! The first half begins with lists. [`answer_from_symbols_and_weights`] and [`answer_from_weights`] accept
 //! lists exactly if they tile, make the models, convert one by any steps, and ask each the same queries. The
-//! replies are those that a scan of the rows of the lists gives. [`answer_from_range_u8`] and its like do this
-//! for the dividing model, [`answer_by_model`] and [`answer_by_symbol_table`] for any model that can be walked
+//! replies are those that a scan of the rows of the lists gives. [`answer_by_uniform_model`] does this for the
+//! dividing model, [`answer_by_model`] and [`answer_by_symbol_table`] for any model that can be walked
 //! through, and [`answer_by_form`] for a decoder that exists already. These functions may make lookup tables,
 //! so their `PRECISION` is at most 63. [`answer_from_weights_by_search`] and [`answer_beside_encoder`] make none,
 //! and take any `PRECISION`. The second half is [`run_cursor_and_reversal`].
@@ -25,10 +25,7 @@ pub use crate::forms::{FormAndReplies, answer_by_form};
 pub use crate::models::{
     AnswersOfModel, answer_beside_encoder, answer_by_model, answer_by_symbol_table,
 };
-pub use crate::ranges::{
-    answer_from_range_u8, answer_from_range_u16, answer_from_range_u32, answer_from_range_u64,
-    answer_from_range_usize,
-};
+pub use crate::ranges::answer_by_uniform_model;
 pub use crate::searches::{AnswersBySearch, answer_from_weights_by_search};
 pub use crate::symbols::answer_from_symbols_and_weights;
 pub use crate::weights::{AnswersOfWeights, RepliesByEncoder, answer_from_weights};
