@@ -7,11 +7,7 @@ pub use constriction_conversions::laws::{
     table_gives_all_rows, table_length, table_walks_rows,
 };
 pub use constriction_model::laws::{
-    contiguous_symbols_differ, each_quantile_in_range_has_a_row, equal_answers,
-    pairs_are_quantiles, quantiles_have_one_row, the_row_found_is_the_row_of_the_quantile,
-    uniform_row_count,
+    contiguous_symbols_differ, contiguous_symbols_have_entries, each_quantile_in_range_has_a_row,
+    equal_answers, pairs_are_quantiles, quantiles_have_one_row,
+    the_row_found_is_the_row_of_the_quantile, uniform_row_count,
 };
-
-mod symbols;
-
-pub use self::symbols::contiguous_symbols_have_entries;

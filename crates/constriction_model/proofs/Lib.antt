@@ -4,4 +4,5 @@ pub mod Digits
 pub mod Finding
 pub mod Halving
 pub mod StepLemmas
+mod SymbolLemmas
 mod UniformLemmas

@@ -1,7 +1,7 @@
 //! Laws that follow from the contracts of models. Each is the contract of a function, and holds for each
 //! type that implements the traits, a caller's own too.
 
-ghost use Rattle.std.specs.Prelude.{◌≡◌, ◌↔◌, ◌^◌, ◌<◌, ℕ, List, Some, length, find, nat_eq, IsSome};
+ghost use Rattle.std.specs.Prelude.{◌≡◌, ◌≢◌, ◌↔◌, ◌^◌, ◌<◌, ◌≤◌, ℕ, List, Some, None, length, find, nat_eq, slice_index_or, IsSome};
 ghost use Rattle.std.specs.List.{IsDistinct};
 ghost use Rattle.constriction_model.specs.Entries.{SameEntries};
 ghost use Rattle.constriction_model.specs.Laws.{HasOneRow, IsOneToOne};
@@ -35,6 +35,18 @@ where
 /// No two symbols of a contiguous model, searching or looking up, are equal, nor are two of a uniform model.
 pub fn contiguous_symbols_differ()
     ensures { (weights : List ℕ) → IsDistinct nat_eq (symbols_of (contiguous_rows weights)) }
+{}
+
+/// The symbols of a contiguous model, searching or looking up, and of a uniform model are the numbers below its
+/// `support_size`: each of these has an entry, no other number has one, and the symbol of each row is its index.
+/// So a coder never answers `ImpossibleSymbol` for one of these numbers, and decodes no other number.
+pub fn contiguous_symbols_have_entries()
+    ensures known { (weights : List ℕ) (s : ℕ) → s < length (contiguous_rows weights)
+        → entry_of nat_eq (contiguous_rows weights) s ≢ None }
+    ensures unknown { (weights : List ℕ) (s : ℕ) → length (contiguous_rows weights) ≤ s
+        → entry_of nat_eq (contiguous_rows weights) s ≡ None }
+    ensures row { (weights : List ℕ) (k : ℕ) (d : Row ℕ) → k < length (contiguous_rows weights)
+        → (slice_index_or (contiguous_rows weights) k d).symbol ≡ k }
 {}
 
 /// Two decoder models of the same symbols and the same `PRECISION` have the same row for each

@@ -6,8 +6,9 @@ use Rattle.std.proofs.Common.{suc, zero, get_or, refl, ap, ◌∙◌, arith, con
 use Rattle.std.proofs.lemmas.Bool.{ne_eqb}
 use Rattle.std.proofs.lemmas.List.{reverse-append}
 use Rattle.std.proofs.lemmas.List.Folds.{find-append}
+use Rattle.std.proofs.lemmas.List.FromFn.{length-range_with_len}
 use Rattle.std.proofs.lemmas.List.Sums.{sum_by-cons}
-use Rattle.constriction_model.specs.Rows.{Row, rows_from, entry_of}
+use Rattle.constriction_model.specs.Rows.{Row, rows_from, contiguous_rows, entry_of}
 
 -- the symbols 0, 1, .. of contiguous models
 abbrev pub indices : ℕ → List ℕ
@@ -22,6 +23,10 @@ length-rows_from l [] [] e = refl
 length-rows_from l [] (w ∷ ws) e = e
 length-rows_from l (s ∷ ss) [] e = refl
 length-rows_from l (s ∷ ss) (w ∷ ws) e = ap suc (length-rows_from (l + w) ss ws (omega arith))
+
+-- there are as many contiguous rows as weights
+pub length-rows : (ws : List ℕ) → length (contiguous_rows ws) ≡ length ws
+length-rows ws = length-rows_from 0 (indices (length ws)) ws (length-range_with_len 0 (length ws))
 
 -- the weights of the rows are the weights they are made of
 pub weights-rows_from : {S : Type 0} (l : ℕ) (ss : List S) (ws : List ℕ) → length ss ≡ length ws

@@ -4,12 +4,9 @@ use Rattle.std.proofs.Common.{get_or, ap, sym, ◌∙◌, arith, subst, inr}
 use Rattle.std.proofs.lemmas.List.FromFn.{length-range_with_len, get_or-range_with_len}
 use Rattle.constriction_model.specs.Rows.{Row, contiguous_rows, RowsTile, entry_of}
 use Rattle.constriction_stored_rows.specs.Stored.{IsStored, weights_of}
-use Rattle.constriction_model.specs.lemmas.Rows.{indices, length-rows_from, contiguous-at, contiguous-past}
+use Rattle.constriction_model.specs.lemmas.Rows.{indices, length-rows, contiguous-at, contiguous-past}
 use Rattle.constriction_stored_rows.specs.lemmas.Stored.{stored-row, length-gaps, lefts_from-at}
 use Rattle.constriction_stored_rows.specs.lemmas.SymbolRows.{symbol-row_at, symbol-rows_tile}
-
-pub length-rows : (ws : List ℕ) → length (contiguous_rows ws) ≡ length ws
-length-rows ws = length-rows_from 0 (indices (length ws)) ws (length-range_with_len 0 (length ws))
 
 -- there are as many rows as left cumulatives
 pub rows-many : (precision : ℕ) (lefts : List ℕ) → length (contiguous_rows (weights_of precision lefts)) ≡ length lefts

@@ -1,5 +1,5 @@
-use Rattle.constriction.proofs.SymbolLemmas.{has-entry, no-entry, symbol-at}
-use Rattle.constriction.proofs.laws.symbols.contiguous_symbols_have_entries.Goals as goal
+use Rattle.constriction_model.proofs.SymbolLemmas.{has-entry, no-entry, symbol-at}
+use Rattle.constriction_model.proofs.laws.contiguous_symbols_have_entries.Goals as goal
 
 pub returns-clause-known : goal.returns-clause-known
 returns-clause-known c = has-entry

@@ -2,9 +2,8 @@
 use Rattle.std.proofs.Common.{◌≡◌, ℕ, ◌+◌, ◌<◌, ◌≤◌, List, length, get_or, take, Some, None, ap, ◌∙◌, arith, inr, nat_eq}
 use Rattle.std.specs.Prelude.{◌≢◌, sum}
 use Rattle.std.proofs.lemmas.List.FromFn.{length-range_with_len, get_or-range_with_len}
-use Rattle.constriction_model.specs.lemmas.Rows.{contiguous-at, contiguous-past, indices, rows_from-at}
+use Rattle.constriction_model.specs.lemmas.Rows.{contiguous-at, contiguous-past, indices, length-rows, rows_from-at}
 use Rattle.constriction_model.specs.Rows.{Row, contiguous_rows, entry_of}
-use Rattle.constriction_stored_rows.specs.lemmas.StoredRows.{length-rows}
 
 -- a number below their count has an entry
 pub has-entry : (weights : List ℕ) (s : ℕ) → s < length (contiguous_rows weights)
