@@ -39,8 +39,8 @@ pub trait IntoSeekReadWords<Word, S: Semantics> {
 
 /// A value that lends a source of words, which are read in the order of `S`.
 ///
-/// Each [`SafeBuf`] lends a [`Cursor`] over its words, at the write end for a stack and at the write
-/// beginning for a queue. Reads move the source alone.
+/// Each [`SafeBuf`] lends a [`Cursor`] over its words, at the write end for a stack and at the
+/// write beginning for a queue. Reads move the source alone.
 pub trait AsReadWords<'a, Word, S: Semantics>: 'a {
     /// The source.
     type AsReadWords: ReadWords<Word, S>;
@@ -113,7 +113,8 @@ impl<Word: Copy, Buf: SafeBuf<Word>> IntoSeekReadWords<Word, Queue> for Buf {
 impl<'a, Word: Copy + 'a, Buf: SafeBuf<Word> + 'a> AsReadWords<'a, Word, Stack> for Buf {
     type AsReadWords = Cursor<Word, &'a [Word]>;
 
-    ghost as_read_words_gives = { λ s r. ((buf_of r).now ≡ Buf.words_of s) × (pos_of r ≡ length (Buf.words_of s)) };
+    ghost as_read_words_gives = { λ s r. ((buf_of r).now ≡ Buf.words_of s)
+        × (pos_of r ≡ length (Buf.words_of s)) };
 
     #[inline]
     fn as_read_words(&'a self) -> Cursor<Word, &'a [Word]> {
@@ -135,7 +136,8 @@ impl<'a, Word: Copy + 'a, Buf: SafeBuf<Word> + 'a> AsReadWords<'a, Word, Queue> 
 impl<'a, Word: Copy + 'a, Buf: SafeBuf<Word> + 'a> AsSeekReadWords<'a, Word, Stack> for Buf {
     type AsSeekReadWords = Cursor<Word, &'a [Word]>;
 
-    ghost as_seek_read_words_gives = { λ s r. ((buf_of r).now ≡ Buf.words_of s) × (pos_of r ≡ length (Buf.words_of s)) };
+    ghost as_seek_read_words_gives = { λ s r. ((buf_of r).now ≡ Buf.words_of s)
+        × (pos_of r ≡ length (Buf.words_of s)) };
 
     #[inline]
     fn as_seek_read_words(&'a self) -> Cursor<Word, &'a [Word]> {

@@ -1,5 +1,5 @@
-//! Backends that a coder reads compressed data from and writes it to: cursors over buffers, reversed backends, and the
-//! sources and sinks of the crate below.
+//! Backends that a coder reads compressed data from and writes it to: cursors over buffers,
+//! reversed backends, and the sources and sinks of the crate below.
 #![tactic(auto)]
 
 mod convert;

@@ -7,8 +7,8 @@ ghost use Rattle.constriction_backends.specs.private.Part.{with_part};
 use constriction_buffers::SafeBufMut;
 use std::slice::from_raw_parts_mut;
 
-/// Lends the words from one index up to another for writing. The buffer keeps what the slice holds at the
-/// end of the loan. The other words stay.
+/// Lends the words from one index up to another for writing. The buffer keeps what the slice holds
+/// at the end of the loan. The other words stay.
 #[inline]
 pub(crate) fn part_mut<Word, Buf: SafeBufMut<Word>>(
     buf: &mut Buf,

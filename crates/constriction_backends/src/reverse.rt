@@ -1,5 +1,6 @@
-//! A backend that is read in the other order. Over a cursor it reads, writes and counts words as a cursor in the `reversal` of the state
-//! does. Its reads are the backend's own, so for them the law `reversal_reads` says this.
+//! A backend that is read in the other order. Over a cursor it reads, writes and counts words as a
+//! cursor in the `reversal` of the state does. Its reads are the backend's own, so for them the law
+//! `reversal_reads` says this.
 
 ghost use Rattle.std.specs.Prelude.{◌≡◌, ◌<◌, ◌↔◌, refl, true, length, IsOk};
 ghost use Rattle.std.proofs.Common.{sym, ◌∙◌};
@@ -19,8 +20,8 @@ use constriction_words::{Pos, PosSeek, Queue, Seek, Stack};
 
 /// A backend with the other order of reading: a stack is read as a queue, and a queue as a stack.
 ///
-/// Over a [`Cursor`] it is a sink too: a write overwrites the word before the cursor's position, and
-/// moves the position back over it.
+/// Over a [`Cursor`] it is a sink too: a write overwrites the word before the cursor's position,
+/// and moves the position back over it.
 ///
 /// Positions are the backend's own, unconverted.
 #[derive(Debug, Drop)]
@@ -136,7 +137,8 @@ impl<Backend: Seek> Seek for Reverse<Backend> {
 
 impl<Word, Buf: SafeBufMut<Word>> Cursor<Word, Buf> {
     /// Reverses the words in place, in one pass, and moves the position to the same cut. Inside the
-    /// `Reverse`, the cursor reads the same words in the same orders, and overwrites the same words.
+    /// `Reverse`, the cursor reads the same words in the same orders, and overwrites the same
+    /// words.
     pub fn into_reversed(self) -> Reverse<Self>
         ensures { TurnsRound Buf.with_words self result.0 }
     {
@@ -145,8 +147,8 @@ impl<Word, Buf: SafeBufMut<Word>> Cursor<Word, Buf> {
 }
 
 impl<Word, Buf: SafeBufMut<Word>> Reverse<Cursor<Word, Buf>> {
-    /// Undoes [`Cursor::into_reversed`], in one pass over the words. A cursor that is reversed twice is
-    /// as it was.
+    /// Undoes [`Cursor::into_reversed`], in one pass over the words. A cursor that is reversed
+    /// twice is as it was.
     pub fn into_reversed(self) -> Cursor<Word, Buf>
         ensures { TurnsRound Buf.with_words self.0 result }
     {
@@ -168,8 +170,10 @@ fn turned<Word, Buf: SafeBufMut<Word>>(mut cursor: Cursor<Word, Buf>) -> Cursor<
 impl<Word: Drop, Buf: SafeBufMut<Word>> WriteWords<Word> for Reverse<Cursor<Word, Buf>> {
     type WriteError = BoundedWriteError;
 
-    // A write is a write on the reversed state. It puts the word at the new position, and is refused if and only if the position is 0.
-    ghost write_gives = { λ s w r t. Overwrites (reversal (state_of s.0)) w r (reversal (state_of t.0))
+    // A write is a write on the reversed state. It puts the word at the new position, and is
+    // refused if and only if the position is 0.
+    ghost write_gives = { λ s w r t.
+        Overwrites (reversal (state_of s.0)) w r (reversal (state_of t.0))
         × PutsAt s.0 Buf.with_words (pos_of t.0) w r t.0 × (IsOk r ↔ (0 < pos_of s.0)) };
 
     ghost tells_written = { λ s words. (reversal (state_of s.0)).before ≡ words };
@@ -196,10 +200,11 @@ impl<Word: Drop, Buf: SafeBufMut<Word>> WriteWords<Word> for Reverse<Cursor<Word
         true
     }
 
-    ghost writes_append = { λ s w r t h. Overwrites-append (λ (x : _). reversal (state_of x.0)) s w r t h.0 };
+    ghost writes_append = { λ s w r t h.
+        Overwrites-append (λ (x : _). reversal (state_of x.0)) s w r t h.0 };
 
-    ghost room_suffices = { λ s w r t h.
-        free_is_taken (length (reversal (state_of s.0)).after) r (length (reversal (state_of t.0)).after)
+    ghost room_suffices = { λ s w r t h. free_is_taken (length (reversal (state_of s.0)).after) r
+        (length (reversal (state_of t.0)).after)
         (Overwrites-counts (λ (x : _). reversal (state_of x.0)) s w r t h.0) };
 }
 
@@ -211,7 +216,8 @@ impl<Word: Drop, Buf: SafeBufMut<Word>> BoundedWriteWords<Word> for Reverse<Curs
         self.0.pos
     }
 
-    ghost counts_writes = { λ s w r t h. Overwrites-counts (λ (x : _). reversal (state_of x.0)) s w r t h.0 };
+    ghost counts_writes = { λ s w r t h.
+        Overwrites-counts (λ (x : _). reversal (state_of x.0)) s w r t h.0 };
 
     ghost room_counts = { λ _ h. h };
 }

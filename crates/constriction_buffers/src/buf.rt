@@ -24,22 +24,26 @@ pub trait SafeBuf<Word> {
         ensures { result.now ≡ words_of self.now };
 }
 
-/// A buffer whose words can be overwritten. Their number never changes. A caller's own type may be one.
+/// A buffer whose words can be overwritten. Their number never changes. A caller's own type may be
+/// one.
 pub trait SafeBufMut<Word>: SafeBuf<Word> {
     // The buffer with other words in it. They are the given ones if these have the buffer's length.
     ghost with_words: { Self → List Word → Self };
 
-    /// Lends the words of the buffer for writing, without a copy. The buffer keeps what the slice holds at
-    /// the end of the loan.
+    /// Lends the words of the buffer for writing, without a copy. The buffer keeps what the slice
+    /// holds at the end of the loan.
     fn words_mut(&mut self) -> &mut [Word]
-        ensures* writes_back { sem 𝓛 (Lends Self.row (Array Word.row 0) self.entry result (with_words self.old)) }
+        ensures* writes_back { sem 𝓛
+            (Lends Self.row (Array Word.row 0) self.entry result (with_words self.old)) }
         ensures value { result.now ≡ Self.words_of self.old };
 
     // A list of the buffer's length becomes its words.
-    ghost stand: { (s : Self) (ws : List Word) → length ws ≡ length (Self.words_of s) → Self.words_of (with_words s ws) ≡ ws };
+    ghost stand: { (s : Self) (ws : List Word) → length ws ≡ length (Self.words_of s)
+        → Self.words_of (with_words s ws) ≡ ws };
 
     // The number of words stays the same for every list.
-    ghost keeps_length: { (s : Self) (ws : List Word) → length (Self.words_of (with_words s ws)) ≡ length (Self.words_of s) };
+    ghost keeps_length: { (s : Self) (ws : List Word)
+        → length (Self.words_of (with_words s ws)) ≡ length (Self.words_of s) };
 
     // The buffer with its own words in it is the buffer.
     ghost unchanged: { (s : Self) → with_words s (Self.words_of s) ≡ s };

@@ -3,7 +3,8 @@
 //! A model divides the quantiles `0..2^PRECISION` among symbols: each symbol has an interval of
 //! them. The traits say which rows a model has and what it answers, over words that are a
 //! [`WholeNumber`](constriction_numbers::WholeNumber). The crate also has the counted search of any
-//! list of cumulatives, the laws of all models, and the uniform models, which divide and store no rows.
+//! list of cumulatives, the laws of all models, and the uniform models, which divide and store no
+//! rows.
 #![tactic(auto)]
 
 mod error;

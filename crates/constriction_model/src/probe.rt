@@ -4,8 +4,9 @@ ghost use Rattle.std.specs.Prelude.{◌≡◌, ◌↔◌, ◌+◌, ◌<◌, ◌�
 
 /// A list of cumulatives that is asked about one of them at a time, and counts the questions.
 ///
-/// [`row_of_quantile`](crate::row_of_quantile) searches it. A caller's own list may be a probe. Only [`at_most`](Self::at_most) tells of a
-/// cumulative, and the other calls take `&self`, so no question goes uncounted.
+/// [`row_of_quantile`](crate::row_of_quantile) searches it. A caller's own list may be a probe.
+/// Only [`at_most`](Self::at_most) tells of a cumulative, and the other calls take `&self`, so no
+/// question goes uncounted.
 pub trait Probe {
     /// The type that the cumulatives are compared with.
     type Word: Copy;

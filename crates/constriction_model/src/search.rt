@@ -51,7 +51,8 @@ fn halve_four_times<R: Probe>(rows: &mut R, q: R::Word, first: usize, size: usiz
     halve(rows, q, eighth_first, eighth)
 }
 
-/// Halves more than eight rows from `first` on four times. None of the four questions needs a test of how many rows are left.
+/// Halves more than eight rows from `first` on four times. None of the four questions needs a test
+/// of how many rows are left.
 #[inline(always)]
 fn halve_many_four_times<R: Probe>(
     rows: &mut R,
@@ -71,8 +72,9 @@ fn halve_many_four_times<R: Probe>(
     half_of_more(rows, q, eighth_first, eighth)
 }
 
-/// Halves the rows from `first` on four times, out of line. A loop with the questions in it is compiled to jumps that depend on
-/// the answers, and not to moves, which are several times as fast on random quantiles.
+/// Halves the rows from `first` on four times, out of line. A loop with the questions in it is
+/// compiled to jumps that depend on the answers, and not to moves, which are several times as fast
+/// on random quantiles.
 #[inline(never)]
 fn sixteenth<R: Probe>(rows: &mut R, q: R::Word, first: usize, size: usize) -> (usize, usize)
     requires searching { MaySearch R.Probe rows.old q first size }
@@ -85,8 +87,9 @@ fn sixteenth<R: Probe>(rows: &mut R, q: R::Word, first: usize, size: usize) -> (
     halve_four_times(rows, q, first, size)
 }
 
-/// The greatest index whose cumulative is at most `q`, in a list of at most two. It is the answer to one question, as a number: a choice
-/// between two rows is compiled to a jump, which the processor has to predict.
+/// The greatest index whose cumulative is at most `q`, in a list of at most two. It is the answer
+/// to one question, as a number: a choice between two rows is compiled to a jump, which the
+/// processor has to predict.
 #[inline(always)]
 #[tactic(auto, using(crate::proofs::Digits::digits_two))]
 fn row_of_two<R: Probe>(rows: &mut R, q: R::Word) -> usize
@@ -100,7 +103,8 @@ fn row_of_two<R: Probe>(rows: &mut R, q: R::Word) -> usize
     usize::from(rows.at_most(1, q))
 }
 
-/// The first of the `left` rows that one question leaves of the `size` rows from `first` on. Either answer leaves that many.
+/// The first of the `left` rows that one question leaves of the `size` rows from `first` on. Either
+/// answer leaves that many.
 #[inline(always)]
 #[tactic(auto, using(crate::proofs::Halving::asked_yes))]
 fn first_left<R: Probe>(rows: &mut R, q: R::Word, first: usize, size: usize, left: usize) -> usize
@@ -151,8 +155,9 @@ fn row_of_sixteen<R: Probe>(rows: &mut R, q: R::Word, first: usize) -> usize
 
 /// The greatest index whose cumulative is at most `q`, in a list of at most 32.
 ///
-/// The first question leaves a power of two, so each later one asks about the row at a fixed distance from the first row left.
-/// The number of questions is chosen once, before the first one, and nothing is tested between them.
+/// The first question leaves a power of two, so each later one asks about the row at a fixed
+/// distance from the first row left. The number of questions is chosen once, before the first one,
+/// and nothing is tested between them.
 #[inline(always)]
 #[tactic(auto, using(crate::proofs::Halving::halved_sixteen, crate::proofs::Halving::halved_eight, crate::proofs::Halving::halved_four, crate::proofs::Halving::halved_two, crate::proofs::Halving::two_halved))]
 fn row_of_thirty_two<R: Probe>(rows: &mut R, q: R::Word) -> usize
@@ -182,8 +187,8 @@ fn row_of_thirty_two<R: Probe>(rows: &mut R, q: R::Word) -> usize
 
 /// The greatest index whose cumulative is at most `q`.
 ///
-/// The search halves the rows until one is left. So it asks as many questions as one less than the number of
-/// rows has binary digits, for every `q`.
+/// The search halves the rows until one is left. So it asks as many questions as one less than the
+/// number of rows has binary digits, for every `q`.
 #[inline(always)]
 #[tactic(auto, using(crate::proofs::Halving::may_begin, crate::proofs::Halving::found, crate::proofs::Halving::counted_all))]
 pub fn row_of_quantile<R: Probe>(rows: &mut R, q: R::Word) -> usize
@@ -191,7 +196,8 @@ pub fn row_of_quantile<R: Probe>(rows: &mut R, q: R::Word) -> usize
     requires room { R.questions rows.old ≤ usize.MAX - 64 }
     ensures found { IsLastAtMost (R.cumulatives rows.old) (R.number q) result }
     ensures same { R.cumulatives rows.new ≡ R.cumulatives rows.old }
-    ensures counted { R.questions rows.new ≡ R.questions rows.old + digits (length (R.cumulatives rows.old) - 1) }
+    ensures counted { R.questions rows.new
+        ≡ R.questions rows.old + digits (length (R.cumulatives rows.old) - 1) }
 {
     let all = rows.len();
     if all <= 2 {
@@ -207,11 +213,13 @@ pub fn row_of_quantile<R: Probe>(rows: &mut R, q: R::Word) -> usize
     first
 }
 
-/// The index that [`row_of_quantile`] answers, by as many questions, for a probe that is not asked afterwards.
+/// The index that [`row_of_quantile`] answers, by as many questions, for a probe that is not asked
+/// afterwards.
 ///
-/// The out-of-line part of the search takes the probe in memory, so a caller's loop would write it there for each quantile. So a
-/// probe of at most `FEW` rows, 32 or fewer, is searched at fixed distances, and stays in registers. In a loop, the questions about
-/// more than two rows are then compiled to jumps; outside a loop `FEW` may be 32.
+/// The out-of-line part of the search takes the probe in memory, so a caller's loop would write it
+/// there for each quantile. So a probe of at most `FEW` rows, 32 or fewer, is searched at fixed
+/// distances, and stays in registers. In a loop, the questions about more than two rows are then
+/// compiled to jumps; outside a loop `FEW` may be 32.
 #[inline(always)]
 #[tactic(auto, using(crate::proofs::Halving::may_begin, crate::proofs::Halving::found))]
 pub fn row_in_probe<R: Probe + Drop, const FEW: usize>(rows: R, q: R::Word) -> usize

@@ -14,8 +14,8 @@ use std::alloc::AllocError;
 pub mod symbol_table;
 mod weights;
 
-/// A model of the symbols `0..range`. Each has the weight `2^PRECISION / range`, rounded down, and the
-/// last one also has the remainder.
+/// A model of the symbols `0..range`. Each has the weight `2^PRECISION / range`, rounded down, and
+/// the last one also has the remainder.
 ///
 /// It holds three words and finds a row by one division.
 #[derive(Debug, Drop)]
@@ -28,9 +28,10 @@ pub struct UniformModel<Probability: WholeNumber, const PRECISION: usize> {
     ghost within: { Probability.whole last_symbol < 2 ^ PRECISION },
     ghost index: { Probability.whole last_symbol + 1 < 2 ^ 64 },
     ghost word: { Probability.whole last_symbol < 2 ^ Probability.BITS },
-    ghost bin: { Probability.whole probability_per_bin ≡ 2 ^ PRECISION / (Probability.whole last_symbol + 1) },
-    ghost rest: { Probability.whole last_probability
-        ≡ 2 ^ PRECISION - Probability.whole last_symbol * (2 ^ PRECISION / (Probability.whole last_symbol + 1)) },
+    ghost bin: { Probability.whole probability_per_bin
+        ≡ 2 ^ PRECISION / (Probability.whole last_symbol + 1) },
+    ghost rest: { Probability.whole last_probability ≡ 2 ^ PRECISION - Probability.whole
+        last_symbol * (2 ^ PRECISION / (Probability.whole last_symbol + 1)) },
 }
 
 /// The model over 24 bits of `u32`, which suits most uses.
@@ -44,7 +45,8 @@ impl<Probability: WholeNumber, const PRECISION: usize> Copy
 
 impl<Probability: WholeNumber, const PRECISION: usize> Clone
     for UniformModel<Probability, PRECISION> {
-    ghost is_clone = { λ x y. ⟦<Self as EntropyModel<PRECISION>>⟧.rows y ≡ ⟦<Self as EntropyModel<PRECISION>>⟧.rows x };
+    ghost is_clone = { λ x y.
+        ⟦<Self as EntropyModel<PRECISION>>⟧.rows y ≡ ⟦<Self as EntropyModel<PRECISION>>⟧.rows x };
 
     ghost is_infallible = { λ _. ⊤ };
 
@@ -120,8 +122,8 @@ impl<Probability: WholeNumber, const PRECISION: usize> EncoderModel<PRECISION>
     for UniformModel<Probability, PRECISION> {
     ghost symbol_eq = { nat_eq };
 
-    /// The entry of a symbol below the range, and `None` for every other number. The number may exceed
-    /// every word, since it is compared before it becomes one. No division.
+    /// The entry of a symbol below the range, and `None` for every other number. The number may
+    /// exceed every word, since it is compared before it becomes one. No division.
     #[inline]
     fn left_cumulative_and_probability(
         &self,

@@ -1,7 +1,8 @@
 //! Words as whole numbers: all that entropy models ask of their words.
 //!
-//! A [`WholeNumber`] has a width, and calls that compare, add and divide. Each contract says which number results.
-//! An [`IndexWord`] is also read as an index, as lookup models need. The unsigned integers of std are both.
+//! A [`WholeNumber`] has a width, and calls that compare, add and divide. Each contract says which
+//! number results. An [`IndexWord`] is also read as an index, as lookup models need. The unsigned
+//! integers of std are both.
 #![tactic(auto)]
 
 mod index_word;

@@ -4,13 +4,13 @@ ghost use Rattle.std.specs.Prelude.{◌≡◌, ◌↔◌, ◌+◌, ◌-◌, ◌*
 
 /// A word as the whole number that it stands for. Models ask nothing more of their words.
 ///
-/// A word of `BITS` bits stands for a number from 0 to `2^BITS - 1`, and words with the same number are
-/// equal. `plus`, `minus` and `times` are exact, and require that the result is a word. Only
+/// A word of `BITS` bits stands for a number from 0 to `2^BITS - 1`, and words with the same number
+/// are equal. `plus`, `minus` and `times` are exact, and require that the result is a word. Only
 /// `wrapping_minus` and `wrapping_pow2` are modulo `2^BITS`.
 ///
-/// Each `BitArray` of `constriction_words` is a `WholeNumber`. A caller's own type may be one without being a
-/// `BitArray`: it serves for models, and for coders that neither shift left nor wrap sums. Generic code over a
-/// `BitArray` takes more than five times as long to check.
+/// Each `BitArray` of `constriction_words` is a `WholeNumber`. A caller's own type may be one
+/// without being a `BitArray`: it serves for models, and for coders that neither shift left nor
+/// wrap sums. Generic code over a `BitArray` takes more than five times as long to check.
 pub trait WholeNumber: Copy {
     /// How many bits a word has.
     const BITS: usize;

@@ -1,4 +1,5 @@
-//! Sources and sinks of words: the traits, stacks that grow, sources over iterators and sinks over callbacks.
+//! Sources and sinks of words: the traits, stacks that grow, sources over iterators and sinks over
+//! callbacks.
 //!
 //! A sink takes words in one order. A source gives them back in an order of its own: last in,
 //! first out ([`Stack`](constriction_words::Stack)) or first in, first out

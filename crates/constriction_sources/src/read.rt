@@ -9,8 +9,9 @@ use std::fmt::Debug;
 
 /// A source of words, which are read in the order of `S`.
 ///
-/// At the end of the words a read answers `Ok(None)`, which is not an error. An implementer says which
-/// answers a read may give (`read_gives`), and may name the upcoming words (`tells_upcoming`).
+/// At the end of the words a read answers `Ok(None)`, which is not an error. An implementer says
+/// which answers a read may give (`read_gives`), and may name the upcoming words
+/// (`tells_upcoming`).
 pub trait ReadWords<Word, S: Semantics> {
     /// Why a read may fail. The end of the words is no failure.
     type ReadError: Debug;
@@ -30,22 +31,25 @@ pub trait ReadWords<Word, S: Semantics> {
         ensures gives { read_gives self.old result self.new }
         ensures goes_on { can_read self.new };
 
-    /// Whether the source may be at its end. `false` means that words are to come, if the source tells them; `true` means nothing.
+    /// Whether the source may be at its end. `false` means that words are to come, if the source
+    /// tells them; `true` means nothing.
     fn maybe_exhausted(&self) -> bool
-        ensures { OnFalse result ((words : List Word) → tells_upcoming self.now words → words ≢ []) }
+        ensures { OnFalse result
+            ((words : List Word) → tells_upcoming self.now words → words ≢ []) }
     {
         true
     }
 
     // A read answers the upcoming words in order.
-    ghost reads_upcoming: { (s : Self) (r : Result (Option Word) Self.ReadError) (t : Self) → read_gives s r t
-        → (words : List Word) → tells_upcoming s words → ReadsUpcoming tells_upcoming words r t };
+    ghost reads_upcoming: { (s : Self) (r : Result (Option Word) Self.ReadError) (t : Self)
+        → read_gives s r t → (words : List Word) → tells_upcoming s words
+        → ReadsUpcoming tells_upcoming words r t };
 }
 
 /// A source that knows how many items it still has: words, and errors in place of words.
 ///
-/// A source in memory counts exactly (`is_exact`). A `Reverse` does if its backend does, and a source over an
-/// iterator does if the iterator's contract counts its items.
+/// A source in memory counts exactly (`is_exact`). A `Reverse` does if its backend does, and a
+/// source over an iterator does if the iterator's contract counts its items.
 pub trait BoundedReadWords<Word, S: Semantics>: ReadWords<Word, S> {
     // How many items are left.
     ghost items_left: { Self → ℕ };
@@ -65,10 +69,11 @@ pub trait BoundedReadWords<Word, S: Semantics>: ReadWords<Word, S> {
     }
 
     // A read takes an item, and answers `Ok(None)` if and only if there is none.
-    ghost counts_reads: { (s : Self) (r : Result (Option Word) Self.ReadError) (t : Self) → is_exact s → Self.read_gives s r t
+    ghost counts_reads: { (s : Self) (r : Result (Option Word) Self.ReadError) (t : Self)
+        → is_exact s → Self.read_gives s r t
         → CountsRead (items_left s) r (items_left t) × is_exact t };
 
     // The upcoming words are as many as the items.
-    ghost counts_upcoming: { (s : Self) → is_exact s → (words : List Word) → Self.tells_upcoming s words
-        → items_left s ≡ length words };
+    ghost counts_upcoming: { (s : Self) → is_exact s → (words : List Word)
+        → Self.tells_upcoming s words → items_left s ≡ length words };
 }

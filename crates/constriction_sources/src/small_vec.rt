@@ -47,7 +47,8 @@ impl<Word: MadeWith<A> + Drop, const N: usize, A: Allocator + Copy> BoundedReadW
         self.len()
     }
 
-    ghost counts_reads = { λ s r t exact gives. Pops-counted (λ (u : _). u.items) s r t exact gives.pops };
+    ghost counts_reads = { λ s r t exact gives.
+        Pops-counted (λ (u : _). u.items) s r t exact gives.pops };
 
     ghost counts_upcoming = { tells_all (λ s. s.items) };
 }
@@ -78,7 +79,8 @@ impl<Word: MadeWith<A> + Drop, const N: usize, A: Allocator + Copy> WriteWords<W
         false
     }
 
-    ghost writes_append = { λ s w r t gives. Pushes-append (λ (u : _). u.items) s w r t gives.pushes };
+    ghost writes_append = { λ s w r t gives.
+        Pushes-append (λ (u : _). u.items) s w r t gives.pushes };
 
     ghost room_suffices = { λ s w r t gives room. any_error r };
 }

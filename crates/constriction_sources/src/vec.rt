@@ -40,7 +40,8 @@ impl<Word> BoundedReadWords<Word, Stack> for Vec<Word> {
         self.len()
     }
 
-    ghost counts_reads = { λ s r t exact gives. Pops-counted (λ (u : _). u.items) s r t exact gives.pops };
+    ghost counts_reads = { λ s r t exact gives.
+        Pops-counted (λ (u : _). u.items) s r t exact gives.pops };
 
     ghost counts_upcoming = { tells_all (λ s. s.items) };
 }
@@ -72,7 +73,8 @@ impl<Word: Drop> WriteWords<Word> for Vec<Word> {
         false
     }
 
-    ghost writes_append = { λ s w r t gives. Pushes-append (λ (u : _). u.items) s w r t gives.pushes };
+    ghost writes_append = { λ s w r t gives.
+        Pushes-append (λ (u : _). u.items) s w r t gives.pushes };
 
     ghost room_suffices = { λ s w r t gives room. any_error r };
 }

@@ -9,8 +9,8 @@ use std::fmt::Debug;
 
 /// A sink of words.
 ///
-/// An implementer says which answers a write may give (`write_gives`), and may name the written words
-/// (`tells_written`) and the states that have room for a word (`has_room`).
+/// An implementer says which answers a write may give (`write_gives`), and may name the written
+/// words (`tells_written`) and the states that have room for a word (`has_room`).
 pub trait WriteWords<Word> {
     /// Why a write may be refused.
     type WriteError: Debug;
@@ -63,7 +63,8 @@ pub trait WriteWords<Word> {
 
     // A write appends to the written words.
     ghost writes_append: { (s : Self) (w : Word) (r : Result (Unit {0}) Self.WriteError) (t : Self)
-        → write_gives s w r t → (words : List Word) → tells_written s words → WritesAppend tells_written words w r t };
+        → write_gives s w r t → (words : List Word) → tells_written s words
+        → WritesAppend tells_written words w r t };
 
     // With room, a write fails only if memory is refused.
     ghost room_suffices: { (s : Self) (w : Word) (r : Result (Unit {0}) Self.WriteError) (t : Self)
@@ -89,8 +90,8 @@ pub trait BoundedWriteWords<Word>: WriteWords<Word> {
     }
 
     // A write takes a free place, and is refused if and only if there is none.
-    ghost counts_writes: { (s : Self) (w : Word) (r : Result (Unit {0}) Self.WriteError) (t : Self) → Self.write_gives s w r t
-        → CountsWrite (free_places s) r (free_places t) };
+    ghost counts_writes: { (s : Self) (w : Word) (r : Result (Unit {0}) Self.WriteError) (t : Self)
+        → Self.write_gives s w r t → CountsWrite (free_places s) r (free_places t) };
 
     // A sink with room has a free place.
     ghost room_counts: { (s : Self) → Self.has_room s → 0 < free_places s };

@@ -45,10 +45,11 @@ pub trait NonZeroBitArray: Copy + Display + Debug + Eq + Hash {
 
 /// A word: an unsigned integer of a fixed number of bits, with the operators of Rust.
 ///
-/// `+`, `-` and `*` are exact, and require that the result is a word. Left shifts and the wrapping calls are
-/// modulo `2^BITS`.
+/// `+`, `-` and `*` are exact, and require that the result is a word. Left shifts and the wrapping
+/// calls are modulo `2^BITS`.
 ///
-/// `u8`, `u16`, `u32`, `u64`, `usize` (64 bits) and `u128` are words. A caller's own type may be one too.
+/// `u8`, `u16`, `u32`, `u64`, `usize` (64 bits) and `u128` are words. A caller's own type may be
+/// one too.
 pub trait BitArray: WholeNumber<NonZero: NonZeroBitArray<Base = Self>>
     + PrimInt
     + Default
@@ -75,7 +76,8 @@ pub trait BitArray: WholeNumber<NonZero: NonZeroBitArray<Base = Self>>
     /// The difference, modulo `2^BITS`.
     fn wrapping_sub(&self, v: &Self) -> Self
         ensures range { Self.whole result < 2 ^ Self.BITS }
-        ensures difference { (Self.whole result + Self.whole v.now) % 2 ^ Self.BITS ≡ Self.whole self.now };
+        ensures difference { (Self.whole result + Self.whole v.now) % 2 ^ Self.BITS
+            ≡ Self.whole self.now };
 
     /// The product, modulo `2^BITS`.
     fn wrapping_mul(&self, v: &Self) -> Self
@@ -95,9 +97,11 @@ pub trait BitArray: WholeNumber<NonZero: NonZeroBitArray<Base = Self>>
     // `==`, `<` and `<=` compare the numbers.
     ghost eq_law: { (a b : Self) → IsTrue (Self.eq a b) ↔ (Self.whole a ≡ Self.whole b) };
 
-    ghost lt_law: { (a b : Self) → IsTrue (partial_lt Self.partial_cmp a b) ↔ (Self.whole a < Self.whole b) };
+    ghost lt_law: { (a b : Self)
+        → IsTrue (partial_lt Self.partial_cmp a b) ↔ (Self.whole a < Self.whole b) };
 
-    ghost le_law: { (a b : Self) → IsTrue (partial_le Self.partial_cmp a b) ↔ (Self.whole a ≤ Self.whole b) };
+    ghost le_law: { (a b : Self)
+        → IsTrue (partial_le Self.partial_cmp a b) ↔ (Self.whole a ≤ Self.whole b) };
 
     // The numbers of `zero`, `one`, the greatest word and the default word.
     ghost zero_law: { Self.whole Self.zero ≡ 0 };
@@ -108,27 +112,34 @@ pub trait BitArray: WholeNumber<NonZero: NonZeroBitArray<Base = Self>>
 
     ghost default_law: { (x : Self) → Self.is_default x → Self.whole x ≡ 0 };
 
-    // For each operation, when it may be used and which number it gives. These are two laws, since the proof search picks a law by its
-    // conclusion.
-    ghost can_add_law: { (a b : Self) → Self.whole a + Self.whole b < 2 ^ Self.BITS → Self.can_add a b };
+    // For each operation, when it may be used and which number it gives. These are two laws, since
+    // the proof search picks a law by its conclusion.
+    ghost can_add_law: { (a b : Self) → Self.whole a + Self.whole b < 2 ^ Self.BITS
+        → Self.can_add a b };
 
-    ghost add_law: { (a b r : Self) → Self.add_gives a b r → Self.whole r ≡ Self.whole a + Self.whole b };
+    ghost add_law: { (a b r : Self) → Self.add_gives a b r
+        → Self.whole r ≡ Self.whole a + Self.whole b };
 
     ghost can_sub_law: { (a b : Self) → Self.whole b ≤ Self.whole a → Self.can_sub a b };
 
-    ghost sub_law: { (a b r : Self) → Self.sub_gives a b r → Self.whole r ≡ Self.whole a - Self.whole b };
+    ghost sub_law: { (a b r : Self) → Self.sub_gives a b r
+        → Self.whole r ≡ Self.whole a - Self.whole b };
 
-    ghost can_mul_law: { (a b : Self) → Self.whole a * Self.whole b < 2 ^ Self.BITS → Self.can_mul a b };
+    ghost can_mul_law: { (a b : Self) → Self.whole a * Self.whole b < 2 ^ Self.BITS
+        → Self.can_mul a b };
 
-    ghost mul_law: { (a b r : Self) → Self.mul_gives a b r → Self.whole r ≡ Self.whole a * Self.whole b };
+    ghost mul_law: { (a b r : Self) → Self.mul_gives a b r
+        → Self.whole r ≡ Self.whole a * Self.whole b };
 
     ghost can_div_law: { (a b : Self) → 0 < Self.whole b → Self.can_div a b };
 
-    ghost div_law: { (a b r : Self) → Self.div_gives a b r → Self.whole r ≡ Self.whole a / Self.whole b };
+    ghost div_law: { (a b r : Self) → Self.div_gives a b r
+        → Self.whole r ≡ Self.whole a / Self.whole b };
 
     ghost can_rem_law: { (a b : Self) → 0 < Self.whole b → Self.can_rem a b };
 
-    ghost rem_law: { (a b r : Self) → Self.rem_gives a b r → Self.whole r ≡ Self.whole a % Self.whole b };
+    ghost rem_law: { (a b r : Self) → Self.rem_gives a b r
+        → Self.whole r ≡ Self.whole a % Self.whole b };
 
     ghost can_shl_law: { (a : Self) (n : ℕ) → n < Self.BITS → Self.can_shl a n };
 

@@ -76,7 +76,8 @@ pub enum DefaultEncoderFrontendError {
 }
 
 impl fmt::Display for DefaultEncoderFrontendError {
-    ghost output = { λ _. Some (codes "Tried to encode symbol that has zero probability under the used entropy model.") };
+    ghost output = { λ _. Some
+        (codes "Tried to encode symbol that has zero probability under the used entropy model.") };
 
     fn fmt<W: fmt::Write>(&self, f: &mut fmt::Formatter<W>) -> fmt::Result {
         match self {

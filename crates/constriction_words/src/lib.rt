@@ -1,7 +1,7 @@
 //! Words of a fixed width, the order in which words are read back, and the errors of coders.
 //!
-//! A probability and a unit of compressed data are both words. A coder fails by itself, or because the
-//! backend that holds its words failed.
+//! A probability and a unit of compressed data are both words. A coder fails by itself, or because
+//! the backend that holds its words failed.
 #![tactic(auto)]
 
 mod bit_array;

@@ -26,8 +26,8 @@ pub trait Seek: PosSeek {
     // A seek of the first state to the position may give this answer and leave the second state.
     ghost seek_gives: { Self → Self.Position → Result (Unit {0}) (Unit {0}) → Self → Type 0 };
 
-    /// Moves to a position, or refuses and changes nothing. The implementer says which positions are
-    /// refused, and what a move does to the words.
+    /// Moves to a position, or refuses and changes nothing. The implementer says which positions
+    /// are refused, and what a move does to the words.
     fn seek(&mut self, pos: Self::Position) -> Result<(), ()>
         ensures moved { OnOk result (Self.position self.new ≡ pos) }
         ensures stays { OnErr result (self.new ≡ self.old) }

@@ -16,7 +16,8 @@ pub enum ReadWriteError<ReadError, WriteError> {
     Write(WriteError),
 }
 
-/// Prints whether a read or a write failed, and then the error. The Rust crate has no `Display` here.
+/// Prints whether a read or a write failed, and then the error. The Rust crate has no `Display`
+/// here.
 impl<ReadError: fmt::Display, WriteError: fmt::Display> fmt::Display
     for ReadWriteError<ReadError, WriteError> {
     ghost output = { read_write_error_text ReadError.output WriteError.output };

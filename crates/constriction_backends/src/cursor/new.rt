@@ -34,7 +34,8 @@ impl<Word, Buf: SafeBuf<Word>> Cursor<Word, Buf> {
         }
     }
 
-    /// A cursor after the first `pos` words. If there are fewer words, this fails and drops the buffer.
+    /// A cursor after the first `pos` words. If there are fewer words, this fails and drops the
+    /// buffer.
     #[inline]
     pub fn new_at_pos(buf: Buf, pos: usize) -> Result<Self, ()>
     where

@@ -65,11 +65,12 @@ impl<Word, Buf: SafeBuf<Word>> Cursor<Word, Buf> {
 impl<Word, Buf: SafeBufMut<Word>> Cursor<Word, Buf> {
     ghost use Rattle.constriction_backends.specs.contracts.cursor.Cursor.{the_row};
 
-    /// Lends all words for writing. The buffer keeps what the slice holds at the end of the loan, and the
-    /// position stays.
+    /// Lends all words for writing. The buffer keeps what the slice holds at the end of the loan,
+    /// and the position stays.
     #[inline]
     pub fn buf_mut(&mut self) -> &mut [Word]
-        ensures* writes_back { sem 𝓛 (Lends (the_row Word.row Buf.row Buf.SafeBuf) (Array Word.row 0) self.entry result
+        ensures* writes_back { sem 𝓛
+            (Lends (the_row Word.row Buf.row Buf.SafeBuf) (Array Word.row 0) self.entry result
             (λ ws. over self.old (Buf.with_words (buf_of self.old) ws))) }
         ensures value { result.now ≡ Buf.words_of (buf_of self.old) }
     {
@@ -79,8 +80,9 @@ impl<Word, Buf: SafeBufMut<Word>> Cursor<Word, Buf> {
     /// Lends the words before the position for writing. The other words and the position stay.
     #[inline]
     pub fn written_mut(&mut self) -> &mut [Word]
-        ensures* writes_back { sem 𝓛 (Lends (the_row Word.row Buf.row Buf.SafeBuf) (Array Word.row 0) self.entry result
-            (λ ws. over self.old (Buf.with_words (buf_of self.old) (ws ++ (state_of self.old).after)))) }
+        ensures* writes_back { sem 𝓛 (Lends (the_row Word.row Buf.row Buf.SafeBuf)
+            (Array Word.row 0) self.entry result (λ ws.
+            over self.old (Buf.with_words (buf_of self.old) (ws ++ (state_of self.old).after)))) }
         ensures value { result.now ≡ (state_of self.old).before }
     {
         let pos = self.pos;
@@ -90,8 +92,9 @@ impl<Word, Buf: SafeBufMut<Word>> Cursor<Word, Buf> {
     /// Lends the words from the position on for writing. The other words and the position stay.
     #[inline]
     pub fn unwritten_mut(&mut self) -> &mut [Word]
-        ensures* writes_back { sem 𝓛 (Lends (the_row Word.row Buf.row Buf.SafeBuf) (Array Word.row 0) self.entry result
-            (λ ws. over self.old (Buf.with_words (buf_of self.old) ((state_of self.old).before ++ ws)))) }
+        ensures* writes_back { sem 𝓛 (Lends (the_row Word.row Buf.row Buf.SafeBuf)
+            (Array Word.row 0) self.entry result (λ ws.
+            over self.old (Buf.with_words (buf_of self.old) ((state_of self.old).before ++ ws)))) }
         ensures value { result.now ≡ (state_of self.old).after }
     {
         let pos = self.pos;
@@ -99,17 +102,17 @@ impl<Word, Buf: SafeBufMut<Word>> Cursor<Word, Buf> {
         part_mut(&mut self.buf, pos, len)
     }
 
-    /// A cursor at the same position that borrows the words for writing. At the end of the loan the buffer
-    /// has what was written. Moves of the borrowing cursor leave this one in place.
+    /// A cursor at the same position that borrows the words for writing. At the end of the loan the
+    /// buffer has what was written. Moves of the borrowing cursor leave this one in place.
     ///
-    /// A caller's proof then knows the position and the number of words, but not the words. A proof that
-    /// needs them makes the cursor over a local that holds the loan of [`buf_mut`](Self::buf_mut), and
-    /// names that local once more at the end.
+    /// A caller's proof then knows the position and the number of words, but not the words. A proof
+    /// that needs them makes the cursor over a local that holds the loan of
+    /// [`buf_mut`](Self::buf_mut), and names that local once more at the end.
     #[inline]
     pub fn as_mut_view(&mut self) -> Cursor<Word, &mut [Word]>
-        ensures* writes_back { sem 𝓛 (follows (the_row Word.row Buf.row Buf.SafeBuf) (Array Word.row 0)
-            self.entry.ghost_name (buf_of result).ghost_name
-            (λ ws. over self.old (Buf.with_words (buf_of self.old) ws))) }
+        ensures* writes_back { sem 𝓛 (follows (the_row Word.row Buf.row Buf.SafeBuf)
+            (Array Word.row 0) self.entry.ghost_name (buf_of result).ghost_name (λ ws.
+            over self.old (Buf.with_words (buf_of self.old) ws))) }
         ensures value { (buf_of result).now ≡ Buf.words_of (buf_of self.old) }
         ensures pos { pos_of result ≡ pos_of self.old }
     {

@@ -1,4 +1,5 @@
-//! A cursor as a source, which is read backwards as a stack and forwards as a queue, and counts its words in that direction.
+//! A cursor as a source, which is read backwards as a stack and forwards as a queue, and counts its
+//! words in that direction.
 
 ghost use Rattle.std.specs.Prelude.{◌≡◌, ◌↔◌, [], length, refl, reverse, IsTrue};
 ghost use Rattle.std.proofs.Common.{ap, sym, ◌∙◌};
@@ -87,7 +88,8 @@ impl<Word: Copy, Buf: SafeBuf<Word>> BoundedReadWords<Word, Stack> for Cursor<Wo
 
     ghost counts_reads = { λ s r t _ h. (StackReads-counts state_of s r t h.0, tt) };
 
-    ghost counts_upcoming = { λ s _ words e. sym (ap length e ∙ length-reverse (state_of s).before) };
+    ghost counts_upcoming = { λ s _ words e.
+        sym (ap length e ∙ length-reverse (state_of s).before) };
 }
 
 impl<Word: Copy, Buf: SafeBuf<Word>> BoundedReadWords<Word, Queue> for Cursor<Word, Buf> {

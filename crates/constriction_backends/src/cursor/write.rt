@@ -1,4 +1,5 @@
-//! A cursor as a sink, which overwrites the word at the position, and as a stack, which reads back what was written.
+//! A cursor as a sink, which overwrites the word at the position, and as a stack, which reads back
+//! what was written.
 
 ghost use Rattle.std.specs.Prelude.{◌≡◌, ◌<◌, refl, true, length};
 ghost use Rattle.std.proofs.Common.{sym};
@@ -41,8 +42,8 @@ impl<Word: Drop, Buf: SafeBufMut<Word>> WriteWords<Word> for Cursor<Word, Buf> {
 
     ghost writes_append = { λ s w r t h. Overwrites-append state_of s w r t h.0 };
 
-    ghost room_suffices = { λ s w r t h. free_is_taken (length (state_of s).after) r (length (state_of t).after)
-        (Overwrites-counts state_of s w r t h.0) };
+    ghost room_suffices = { λ s w r t h. free_is_taken (length (state_of s).after) r
+        (length (state_of t).after) (Overwrites-counts state_of s w r t h.0) };
 }
 
 impl<Word: Drop, Buf: SafeBufMut<Word>> BoundedWriteWords<Word> for Cursor<Word, Buf> {

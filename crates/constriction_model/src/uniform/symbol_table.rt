@@ -16,8 +16,8 @@ use std::iter::FusedIterator;
 
 /// The remaining rows of a [`UniformModel`], from either end.
 ///
-/// Each row is given once, from one end or the other. Both ends answer `None` if and only if no row is
-/// left. Every item is `Ok`, since the walk takes no memory. A step costs one product.
+/// Each row is given once, from one end or the other. Both ends answer `None` if and only if no row
+/// is left. Every item is `Ok`, since the walk takes no memory. A step costs one product.
 ///
 /// The weights are stored as words other than 0, so no step tests them.
 #[derive(Drop)]
@@ -56,8 +56,8 @@ impl<Probability: WholeNumber, const PRECISION: usize> UniformSymbolTable<Probab
     #[inline]
     fn row_words_of(&self, symbol: Probability) -> (Probability, Weight<Probability>)
         requires { Probability.whole symbol ≤ Probability.whole self.now.model.last_symbol }
-        ensures left { Probability.whole result.0
-            ≡ Probability.whole symbol * bin_of PRECISION (Probability.whole self.now.model.last_symbol) }
+        ensures left { Probability.whole result.0 ≡ Probability.whole symbol * bin_of PRECISION
+            (Probability.whole self.now.model.last_symbol) }
         ensures weight { IsWeight PRECISION (Probability.whole self.now.model.last_symbol)
             (Probability.whole symbol) (Probability.whole (Probability.base result.1)) }
     {
@@ -75,8 +75,9 @@ impl<Probability: WholeNumber, const PRECISION: usize> Iterator
     for UniformSymbolTable<Probability, PRECISION> {
     type Item = Result<(usize, Probability, Weight<Probability>), AllocError>;
 
-    ghost next_gives = { YieldsRow (λ s t. t ≡ s) (λ _. ⊥) Probability.whole Probability.base
-        (λ t. rows_between t.from t.to (uniform_rows PRECISION (Probability.whole t.model.last_symbol + 1))) };
+    ghost next_gives = { YieldsRow (λ s t. t ≡ s) (λ _. ⊥) Probability.whole Probability.base (λ t.
+        rows_between t.from t.to
+        (uniform_rows PRECISION (Probability.whole t.model.last_symbol + 1))) };
 
     ghost remaining = { λ t. at_most (length (rows_between t.from t.to
         (uniform_rows PRECISION (Probability.whole t.model.last_symbol + 1)))) };
@@ -104,8 +105,9 @@ impl<Probability: WholeNumber, const PRECISION: usize> Iterator
 
 impl<Probability: WholeNumber, const PRECISION: usize> DoubleEndedIterator
     for UniformSymbolTable<Probability, PRECISION> {
-    ghost next_back_gives = { YieldsLastRow (λ s t. t ≡ s) (λ _. ⊥) Probability.whole Probability.base
-        (λ t. rows_between t.from t.to (uniform_rows PRECISION (Probability.whole t.model.last_symbol + 1))) };
+    ghost next_back_gives = { YieldsLastRow (λ s t. t ≡ s) (λ _. ⊥) Probability.whole
+        Probability.base (λ t. rows_between t.from t.to
+        (uniform_rows PRECISION (Probability.whole t.model.last_symbol + 1))) };
 
     #[inline]
     fn next_back(

@@ -6,11 +6,11 @@ ghost use Rattle.constriction_model.specs.lemmas.UniformRows.{bin_of, rest_of};
 
 use constriction_numbers::WholeNumber;
 
-/// The weight of each symbol but the last one: `2^PRECISION` divided by the number of symbols, rounded
-/// down.
+/// The weight of each symbol but the last one: `2^PRECISION` divided by the number of symbols,
+/// rounded down.
 ///
-/// At the full width `2^PRECISION` is no word. So each symbol gets one quantile first, and the rest is
-/// divided.
+/// At the full width `2^PRECISION` is no word. So each symbol gets one quantile first, and the rest
+/// is divided.
 #[inline]
 pub(crate) fn probability_per_bin<Word: WholeNumber, const PRECISION: usize>(
     last_symbol: Word,
@@ -51,8 +51,10 @@ pub(crate) fn last_probability<Word: WholeNumber, const PRECISION: usize>(
 pub(crate) fn symbol_of<Word: WholeNumber>(quantile: Word, bin: Word, last_symbol: Word) -> Word
     requires { 0 < Word.whole bin }
     ensures within { Word.whole result ≤ Word.whole last_symbol }
-    ensures before { Word.whole result < Word.whole last_symbol → Word.whole result ≡ Word.whole quantile / Word.whole bin }
-    ensures last { Word.whole result ≡ Word.whole last_symbol → Word.whole last_symbol ≤ Word.whole quantile / Word.whole bin }
+    ensures before { Word.whole result < Word.whole last_symbol
+        → Word.whole result ≡ Word.whole quantile / Word.whole bin }
+    ensures last { Word.whole result ≡ Word.whole last_symbol
+        → Word.whole last_symbol ≤ Word.whole quantile / Word.whole bin }
 {
     let symbol = quantile.divided_by(bin);
     if symbol.is_below(last_symbol) {

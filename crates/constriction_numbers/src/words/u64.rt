@@ -110,7 +110,8 @@ impl WholeNumber for u64 {
 
     ghost weight_law = { λ x. x.ok };
 
-    ghost same_weight_law = { λ a b e. same-above-0 (λ n h. record { value = n; ok = h }) a.ok b.ok e };
+    ghost same_weight_law = { λ a b e.
+        same-above-0 (λ n h. record { value = n; ok = h }) a.ok b.ok e };
 }
 
 impl IndexWord for u64 {}

@@ -46,7 +46,8 @@ impl<Word, C: FnMut(Word)> InfallibleCallbackWriteWords<Word, C> {
 impl<Word, C: FnMut(Word)> WriteWords<Word> for InfallibleCallbackWriteWords<Word, C> {
     type WriteError = Infallible;
 
-    ghost write_gives = { λ s w r t. MatchResult r (λ x. C.step s.write_callback w x t.write_callback) (λ _. ⊥) };
+    ghost write_gives = { λ s w r t.
+        MatchResult r (λ x. C.step s.write_callback w x t.write_callback) (λ _. ⊥) };
 
     ghost can_write = { λ s. C.IsAlwaysCallable s.write_callback };
 

@@ -13,9 +13,9 @@ use std::fmt::Debug;
 
 /// A source over an iterator whose items are words or errors.
 ///
-/// A read takes the next item, in either order of reading. It answers the word or the error, and reading
-/// may go on after an error. After the first end the iterator is not asked again, and each read answers
-/// `Ok(None)`.
+/// A read takes the next item, in either order of reading. It answers the word or the error, and
+/// reading may go on after an error. After the first end the iterator is not asked again, and each
+/// read answers `Ok(None)`.
 #[derive(Debug, Drop)]
 pub struct FallibleIteratorReadWords<Iter: Iterator> {
     inner: FusedWords<Iter>,
@@ -87,7 +87,8 @@ impl<
     S: Semantics,
     Iter: ExactSizeIterator<Item = Result<Word, ReadError>>,
 > BoundedReadWords<Word, S> for FallibleIteratorReadWords<Iter> {
-    ghost items_left = { λ s. size (count_unless (fuse_done s.inner) (Iter.remaining (fuse_source s.inner))) };
+    ghost items_left = { λ s.
+        size (count_unless (fuse_done s.inner) (Iter.remaining (fuse_source s.inner))) };
 
     ghost is_exact = { λ s. CountsDown {W = Word} (fuse_steps Iter.next_gives)
         (λ it. size (count_unless (fuse_done it) (Iter.remaining (fuse_source it)))) (λ _ _. ⊥)

@@ -13,8 +13,8 @@ use std::convert::Infallible;
 
 /// A source over an iterator whose items are words.
 ///
-/// A read takes the next item, in either order of reading. After the first end the iterator is not asked
-/// again, and each read answers `Ok(None)`.
+/// A read takes the next item, in either order of reading. After the first end the iterator is not
+/// asked again, and each read answers `Ok(None)`.
 #[derive(Debug, Drop)]
 pub struct InfallibleIteratorReadWords<Iter: Iterator> {
     inner: FusedWords<Iter>,
@@ -69,12 +69,14 @@ impl<Word, S: Semantics, Iter: Iterator<Item = Word>> ReadWords<Word, S>
         true
     }
 
-    ghost reads_upcoming = { λ s r t. word-upcoming Iter.next_gives fuse_done fuse_source s.inner r t.inner };
+    ghost reads_upcoming = { λ s r t.
+        word-upcoming Iter.next_gives fuse_done fuse_source s.inner r t.inner };
 }
 
 impl<Word, S: Semantics, Iter: ExactSizeIterator<Item = Word>> BoundedReadWords<Word, S>
     for InfallibleIteratorReadWords<Iter> {
-    ghost items_left = { λ s. size (count_unless (fuse_done s.inner) (Iter.remaining (fuse_source s.inner))) };
+    ghost items_left = { λ s.
+        size (count_unless (fuse_done s.inner) (Iter.remaining (fuse_source s.inner))) };
 
     ghost is_exact = { λ s. CountsDown (fuse_steps Iter.next_gives)
         (λ it. size (count_unless (fuse_done it) (Iter.remaining (fuse_source it))))
@@ -89,10 +91,12 @@ impl<Word, S: Semantics, Iter: ExactSizeIterator<Item = Word>> BoundedReadWords<
     ghost counts_reads = { λ s r t. word-counted Iter.next_gives fuse_done fuse_source
         (λ it. size (count_unless (fuse_done it) (Iter.remaining (fuse_source it))))
         (AlwaysYields (fuse_steps Iter.next_gives) (λ w. w))
-        (none-left fuse_done fuse_source Iter.remaining) (none-upcoming Iter.next_gives fuse_done fuse_source) s.inner r t.inner };
+        (none-left fuse_done fuse_source Iter.remaining)
+        (none-upcoming Iter.next_gives fuse_done fuse_source) s.inner r t.inner };
 
     ghost counts_upcoming = { λ s. upcoming-counted Iter.next_gives fuse_done fuse_source
         (λ it. size (count_unless (fuse_done it) (Iter.remaining (fuse_source it))))
         (AlwaysYields (fuse_steps Iter.next_gives) (λ w. w))
-        (none-left fuse_done fuse_source Iter.remaining) (none-upcoming Iter.next_gives fuse_done fuse_source) s.inner };
+        (none-left fuse_done fuse_source Iter.remaining)
+        (none-upcoming Iter.next_gives fuse_done fuse_source) s.inner };
 }

@@ -7,8 +7,8 @@ use crate::read::ReadWords;
 use constriction_words::Semantics;
 use std::fmt::Debug;
 
-/// After a source over an iterator of words has answered `Ok(None)`, each later read does, whatever the
-/// iterator would give.
+/// After a source over an iterator of words has answered `Ok(None)`, each later read does, whatever
+/// the iterator would give.
 pub fn word_end_is_for_good<Word, S: Semantics, Iter: Iterator<Item = Word>>()
     ensures { EndIsForGood ⟦<InfallibleIteratorReadWords<Iter> as ReadWords<Word, S>>⟧.read_gives }
 {}

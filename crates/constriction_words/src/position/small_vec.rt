@@ -1,7 +1,7 @@
 //! Positions of `SmallVec`: the position is the length, and a seek back drops the words after it.
 //!
-//! These impls are not beside the reads and writes of the stack, since an impl belongs to the crate of
-//! its trait or its type.
+//! These impls are not beside the reads and writes of the stack, since an impl belongs to the crate
+//! of its trait or its type.
 
 ghost use Rattle.std.specs.Prelude.{length};
 ghost use Rattle.constriction_words.specs.Rewinding.{RewindsIn};
@@ -24,7 +24,8 @@ impl<Word, const N: usize, A: Allocator> Pos for SmallVec<Word, N, A> {
     }
 }
 
-/// A seek back drops the words from the position on for good, and a position past the end is refused.
+/// A seek back drops the words from the position on for good, and a position past the end is
+/// refused.
 impl<Word: MadeWith<A> + Drop, const N: usize, A: Allocator + Copy> Seek for SmallVec<Word, N, A> {
     ghost seek_gives = { RewindsIn (λ s. s.items) (λ s. s.capacity) N };
 

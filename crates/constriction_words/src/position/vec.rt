@@ -1,7 +1,7 @@
 //! Positions of `Vec`: the position is the length, and a seek back drops the words after it.
 //!
-//! These impls are not beside the reads and writes of the stack, since an impl belongs to the crate of
-//! its trait or its type.
+//! These impls are not beside the reads and writes of the stack, since an impl belongs to the crate
+//! of its trait or its type.
 
 ghost use Rattle.std.specs.Prelude.{length, vec_capacity};
 ghost use Rattle.constriction_words.specs.Rewinding.{RewindsIn};
@@ -21,7 +21,8 @@ impl<Word> Pos for Vec<Word> {
     }
 }
 
-/// A seek back drops the words from the position on for good, and a position past the end is refused.
+/// A seek back drops the words from the position on for good, and a position past the end is
+/// refused.
 impl<Word: Drop> Seek for Vec<Word> {
     ghost seek_gives = { RewindsIn (λ s. s.items) vec_capacity 0 };
 
