@@ -18,6 +18,7 @@ module _ {Symbol Word Sink Error : Type 0} (entry : Symbol → Option (ℕ × �
     (gives : Sink → Word → Result (Unit {0}) Error → Sink → Type 0) (tells : Sink → List Word → Type 0)
     (law : (s : Sink) (w : Word) (r : Result (Unit {0}) Error) (t : Sink) → gives s w r t
     → (ws : List Word) → tells s ws → WritesAppend tells ws w r t) where
+  -- after one more item, the items so far are written
   pub wrote-more : (items : List (Symbol × Word)) (i : ℕ) (item : Symbol × Word) (word : Word) (s j t : Sink)
       → i < length items → item ≡ get_or items i item → WritesItems entry whole gives tells (take i items) s j
       → IsQuantileOf entry whole item (whole word) → gives j word (Ok tt) t

@@ -12,7 +12,7 @@ use Rattle.constriction_backends.specs.Source.{Reads}
 use Rattle.constriction_client.specs.declared.quantiles.QuantileFault.{QuantileFault}
 use Rattle.constriction_client.specs.private.Coming.{ComeNext, GoesBack}
 use Rattle.constriction_client.specs.Placing.{PlacesItems}
-use Rattle.constriction_client.specs.Quantiles.{IsQuantileOf, IsFaultOf, WritesItems, StopsAt, StopsAtItem}
+use Rattle.constriction_client.specs.Quantiles.{IsQuantileOf, IsFaultOf, WritesItems, StopsAmong, StopsAtItem}
 
 -- equal lists with the same beginning have the same rest
 same-back : {X : Type 0} (a b c : List X) → a ++ b ≡ a ++ c → b ≡ c
@@ -29,14 +29,16 @@ module _ {Word Buf Error : Type 0} {g : Ghosts Buf Word} (with_words : Buf → L
       (law : (c : Cursor Word Buf g) (words : List Word) (t : Cursor Word Buf g) → Writes gives_write c words t
       → OverwritesAll with_words c words t)
       (c : Cursor Word Buf g) where
+    -- items that were written to a cursor lie from its old position on
     pub items-placed : (items : List (Symbol × Word)) (t : Cursor Word Buf g)
         → WritesItems entry whole gives_write tells items c t → PlacesItems entry whole with_words c items t
     items-placed items t wrote =
         record { words = wrote.words; quantiles = wrote.quantiles; overwrote = law c wrote.words t wrote.written }
 
+    -- an item without a quantile ends the writing, and those before it lie there
     pub fault-placed : (items : List (Symbol × Word)) (t : Cursor Word Buf g) (fault : QuantileFault)
         → StopsAtItem entry whole gives_write tells items c (Frontend fault) t
-        → StopsAt items (λ before item. PlacesItems entry whole with_words c before t × IsFaultOf entry whole item fault)
+        → StopsAmong items (λ before item. PlacesItems entry whole with_words c before t × IsFaultOf entry whole item fault)
     fault-placed items t fault at = record {
       before = at.before;
       item = at.item;
@@ -49,9 +51,10 @@ module _ {Word Buf Error : Type 0} {g : Ghosts Buf Word} (with_words : Buf → L
       );
     }
 
+    -- an item that finds no place ends the writing, and those before it lie there
     pub full-placed : (items : List (Symbol × Word)) (t : Cursor Word Buf g) (error : Error)
         → StopsAtItem entry whole gives_write tells items c (Backend error) t
-        → StopsAt items (λ before item. PlacesItems entry whole with_words c before t × (q : ℕ) × IsQuantileOf entry whole item q)
+        → StopsAmong items (λ before item. PlacesItems entry whole with_words c before t × (q : ℕ) × IsQuantileOf entry whole item q)
         × ((state_of t).after ≡ [])
     full-placed items t error at =
         let refused = at.is_such.2 in

@@ -20,9 +20,11 @@ pub record Parted {Symbol Word Weight Refusal : Type 0} (base : Weight → Word)
   pub weights_are : weights ≡ map (λ x. base x.2) rows
 
 module _ {Symbol Word Weight Refusal : Type 0} (base : Weight → Word) where
+  -- no items part into no symbols and no weights
   pub parted-none : Parted {Symbol = Symbol} {Word = Word} {Weight = Weight} {Refusal = Refusal} base [] [] []
   parted-none = record { rows = []; came = refl; symbols_are = refl; weights_are = refl }
 
+  -- one more item adds its symbol and its weight
   pub parted-more : (items : List (Result (Symbol × Word × Weight) Refusal)) (symbols : List Symbol) (weights : List Word)
       (symbol : Symbol) (left word : Word) (weight : Weight) → word ≡ base weight → Parted base items symbols weights
       → Parted base (items ++ Ok (symbol, left, weight) ∷ []) (symbols ++ symbol ∷ []) (weights ++ word ∷ [])
@@ -89,6 +91,7 @@ module _ {Symbol Word Weight Refusal Walk : Type 0} (eq : Symbol → Symbol → 
       (distinct-made eq laws Stands equal made rows stand distinct)) in
       (built.0, subst (λ (rs : List (Row Symbol)). StandForRows Stands rs rows) (sym built.1) stand)
 
+  -- the symbols and weights of a whole symbol table are accepted, and make its rows again
   pub lists-of-table : (walk : Walk) (left rows : List (Row Symbol)) (symbols : List Symbol) (weights : List Word) → left ≡ rows
       → RowsTile bits precision rows → IsDistinct eq (symbols_of rows)
       → ((items : List (Result (Symbol × Word × Weight) Refusal)) → Drains steps walk items

@@ -52,6 +52,7 @@ same-replies Stands same (g ∷ gs) [] h = absurd h
 same-replies Stands same (g ∷ gs) (t ∷ ts) h =
     ap (λ x. x ∷ gs) (same-reply Stands same g t h.0) ∙ ap (λ xs. t ∷ xs) (same-replies Stands same gs ts h.1)
 
+-- replies that stand for those of a scan are replies of it
 pub replies-of : {S : Type 0} (Stands : S → S → Type 0) (given scanned : List (Reply S ℕ ℕ)) → StandForReplies Stands given scanned
     → AreRepliesOf Stands scanned given
 replies-of Stands given scanned h = record { stand = h; exact = λ same. same-replies Stands same given scanned h }

@@ -70,6 +70,7 @@ are-these Stands eq carry (i ∷ is) (p ∷ ps) h = (
   are-these Stands eq carry is ps h.1,
 )
 
+-- pairs that were read from the quantiles of items stand for the items
 pub stand-back : {Symbol Word : Type 0} (Stands : Symbol → Symbol → Type 0) (eq : Symbol → Symbol → Bool) → IsEquivalence eq
     → (entry : Symbol → Option (ℕ × ℕ)) (whole : Word → ℕ) (bits precision : ℕ) (rows : List (Row Symbol))
     (items pairs : List (Symbol × Word)) (words : List Word)
@@ -84,6 +85,7 @@ stand-back Stands eq laws entry whole bits precision rows items pairs words tile
           are-these Stands eq (λ s t u stands same. sym (laws.congr s t u (equal s t stands)) ∙ same) items pairs stand;
     }
 
+-- in a queue words are read in their order, and so are items
 pub reads-back : (Symbol Word : Type 0) → ReadsBack Symbol Word (λ words. words) (λ items. items)
 reads-back Symbol Word eq entry whole bits precision rows items pairs words tile one_word agree h k =
     are-these (λ s t. t ≡ s) eq (λ s t u is same. ap (λ x. eq x u) is ∙ same) items pairs
@@ -99,6 +101,7 @@ AllZip-reverse R (x ∷ xs) (y ∷ ys) h =
     rw (reverse-append (x ∷ []) xs, reverse-append (y ∷ []) ys)
     (all_zipped_more R (reverse xs) (reverse ys) x y (AllZip-reverse R xs ys h.1) h.0)
 
+-- the same where the words are read in reverse: the items come back in reverse
 pub stand-back-reversed : {Symbol Word : Type 0} (Stands : Symbol → Symbol → Type 0) (eq : Symbol → Symbol → Bool) → IsEquivalence eq
     → (entry : Symbol → Option (ℕ × ℕ)) (whole : Word → ℕ) (bits precision : ℕ) (rows : List (Row Symbol))
     (items pairs : List (Symbol × Word)) (words : List Word)
@@ -110,6 +113,7 @@ stand-back-reversed Stands eq laws entry whole bits precision rows items pairs w
     stand-back Stands eq laws entry whole bits precision rows (reverse items) pairs (reverse words) tile one_word agree
     (AllZip-reverse (λ item word. IsQuantileOf entry whole item (whole word)) items words h) k
 
+-- in a stack words are read in reverse, and so are items
 pub reads-back-reversed : (Symbol Word : Type 0) → ReadsBack Symbol Word reverse reverse
 reads-back-reversed Symbol Word eq entry whole bits precision rows items pairs words tile one_word agree h k =
     reads-back Symbol Word eq entry whole bits precision rows (reverse items) pairs (reverse words) tile one_word agree

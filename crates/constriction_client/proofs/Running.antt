@@ -27,6 +27,7 @@ module _ {W : Type 0} where
   runs-push s j t (c ∷ cs) [] asked said h one = absurd h
   runs-push s j t (c ∷ cs) (r ∷ rs) asked said h one = (h.0, h.1, runs-push h.0 j t cs rs asked said h.2 one)
 
+  -- one call more, and its reply
   pub runs-more : (calls : List (CursorCall W)) (i : ℕ) (d : CursorCall W) (s j t : State W) (replies more : List (CursorReply W))
       (said : CursorReply W) → i < length calls → Runs s (take i calls) replies j → RepliesTo j (get_or calls i d) said t
       → more ≡ replies ++ said ∷ [] → Runs s (take (i + 1) calls) more t
@@ -108,6 +109,7 @@ module _ {W : Type 0} where
 
   -- ---- a run has one outcome
 
+  -- calls on a state have one list of replies, and leave one state
   pub runs-once : (s : State W) (calls : List (CursorCall W)) (replies others : List (CursorReply W)) (t u : State W)
       → Runs s calls replies t → Runs s calls others u → (others ≡ replies) × (u ≡ t)
   runs-once s [] [] [] t u h k = (refl, sym k ∙ h)

@@ -14,6 +14,7 @@ words s = s.before ++ s.after
 words-turned : {W : Type 0} (xs : List W) (p : ℕ) → words (reversal (state xs p)) ≡ reverse xs
 words-turned xs p = sym (reverse-append (take p xs) (drop p xs)) ∙ ap reverse (take-append-drop p xs)
 
+-- the reversal of a state can seek back to where it stood
 pub seek_back : {W : Type 0} (xs ys all : List W) (p q n : ℕ) → ys ≡ xs → all ≡ xs → n ≡ length all - q → q ≤ length all
     → RepliesTo (reversal (state xs p)) (call.Seek q) reply.Moved (reversal (state ys n))
 seek_back xs ys all p q n stays whole there within = (

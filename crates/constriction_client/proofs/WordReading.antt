@@ -1,5 +1,5 @@
 -- How words are read and their pairs added, turn by turn.
-use Rattle.std.proofs.Common.{◌≡◌, ℕ, ◌+◌, ◌^◌, ◌<◌, ◌≤◌, ◌⊎◌, List, [], ◌∷◌, ◌++◌, length, Option, Some, None, Result, Ok, Err, refl, ap, sym, ◌∙◌, subst, inl, inr, arith, append_assoc, append-nil, length-append}
+use Rattle.std.proofs.Common.{◌≡◌, ℕ, ◌+◌, ◌<◌, ◌≤◌, ◌⊎◌, List, [], ◌∷◌, ◌++◌, length, Option, Some, None, Result, Ok, Err, refl, ap, sym, ◌∙◌, subst, inl, inr, arith, append_assoc, append-nil, length-append}
 use Rattle.std.proofs.lemmas.List.{length_push}
 use Rattle.std.proofs.lemmas.Slice.Zip.{all_zipped_more}
 use Rattle.constriction_words.specs.declared.coder_error.CoderError.{CoderError}
@@ -21,6 +21,7 @@ has-room room held capacity mid new x is keeps so_far fits =
     let stayed : held ≡ room = so_far (omega (arith, long, fits)) in
     keeps (omega (arith, long, fits, stayed)) ∙ stayed
 
+-- if nothing is added, it stays too
 pub stays-full : {X : Type 0} (room held capacity : ℕ) (mid new : List X) → new ≡ mid → capacity ≡ held
     → (length mid ≤ room → held ≡ room) → length new ≤ room → capacity ≡ room
 stays-full room held capacity mid new is stays so_far fits = stays ∙ so_far (omega (arith, ap length is, fits))
@@ -38,9 +39,11 @@ module _ {Symbol Word : Type 0} (Stands : Symbol → Symbol → Type 0) (rows : 
     abbrev pub HasRead : Source → List (Symbol × Word) → ℕ → Source → List (Symbol × Word) → Type 0
     HasRead s old n t new = (adds : AddsPairs reads (GivesPair Stands rows whole precision (λ _. ⊥)) s old t new) × (length adds.pairs ≡ n)
 
+    -- nothing was read
     pub read-none : (s : Source) (old : List (Symbol × Word)) → HasRead s old 0 s old
     read-none s old = (record { words = []; pairs = []; of_words = tt; added = sym (append-nil old); read = refl }, refl)
 
+    -- one word more was read, and its pair added
     pub read-more : (s : Source) (old : List (Symbol × Word)) (n : ℕ) (j : Source) (mid : List (Symbol × Word)) (word : Word)
         (pair : Symbol × Word) (t : Source) (new : List (Symbol × Word)) → HasRead s old n j mid
         → reads.read_gives j (Ok (Some word)) t → GivesPair Stands rows whole precision (λ _. ⊥) word (Ok pair)

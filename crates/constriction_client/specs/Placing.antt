@@ -9,7 +9,7 @@ use Rattle.constriction_buffers.specs.declared.buf.SafeBuf.{Ghosts}
 use Rattle.constriction_backends.specs.declared.cursor.Cursor.{Cursor}
 use Rattle.constriction_backends.specs.Cursor.{buf_of, state_of, OverwritesAll}
 use Rattle.constriction_client.specs.declared.quantiles.QuantileFault.{QuantileFault}
-use Rattle.constriction_client.specs.Quantiles.{IsQuantileOf, IsFaultOf, AreQuantiles, StopsAt}
+use Rattle.constriction_client.specs.Quantiles.{IsQuantileOf, IsFaultOf, AreQuantiles, StopsAmong}
 
 module _ {Symbol Word Buf : Type 0} {g : Ghosts Buf Word} (entry : Symbol → Option (ℕ × ℕ)) (whole : Word → ℕ)
     (with_words : Buf → List Word → Buf) (c : Cursor Word Buf g) where
@@ -22,7 +22,7 @@ module _ {Symbol Word Buf : Type 0} {g : Ghosts Buf Word} (entry : Symbol → Op
   -- What a fault leaves. If memory was refused while the words were read, nothing is known of the position.
   abbrev pub EndsPlacing : {ReadError WriteError : Type 0} → List (Symbol × Word)
       → CoderError QuantileFault (ReadWriteError ReadError WriteError) → Cursor Word Buf g → Type 0
-  EndsPlacing items (Frontend fault) t = StopsAt items (λ before item. PlacesItems before t × IsFaultOf entry whole item fault)
+  EndsPlacing items (Frontend fault) t = StopsAmong items (λ before item. PlacesItems before t × IsFaultOf entry whole item fault)
   EndsPlacing items (Backend (Write _)) t =
-      StopsAt items (λ before item. PlacesItems before t × (q : ℕ) × IsQuantileOf entry whole item q) × ((state_of t).after ≡ [])
+      StopsAmong items (λ before item. PlacesItems before t × (q : ℕ) × IsQuantileOf entry whole item q) × ((state_of t).after ≡ [])
   EndsPlacing items (Backend (Read _)) t = (j : Cursor Word Buf g) × PlacesItems items j × (buf_of t ≡ buf_of j)

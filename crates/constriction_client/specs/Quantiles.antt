@@ -17,7 +17,7 @@ use Rattle.constriction_client.specs.declared.quantiles.ReadFault.TheVariants.{O
 -- Below, `entry` gives the entry of each symbol, and `whole` the number of each word.
 
 -- `IsSuch` is true of one of the items and the items before it
-pub record StopsAt {Item : Type 0} (items : List Item) (IsSuch : List Item → Item → Type 0) : Type 0 where
+pub record StopsAmong {Item : Type 0} (items : List Item) (IsSuch : List Item → Item → Type 0) : Type 0 where
   pub before : List Item
   pub item : Item
   pub after : List Item
@@ -54,7 +54,7 @@ module _ {Symbol Word : Type 0} (entry : Symbol → Option (ℕ × ℕ)) (whole 
     -- the quantiles of the items before one were written, and that item was refused
     abbrev pub StopsAtItem : (Sink → List Word → Type 0) → List (Symbol × Word) → Sink → CoderError QuantileFault Error → Sink → Type 0
     StopsAtItem tells items s fault t =
-        StopsAt items (λ before item. (reached : Sink) × (wrote : WritesItems tells before s reached) × RefusesItem item reached fault t
+        StopsAmong items (λ before item. (reached : Sink) × (wrote : WritesItems tells before s reached) × RefusesItem item reached fault t
         × ((old : List Word) → tells s old → tells t (old ++ wrote.words)))
 
 module _ {Symbol Word : Type 0} (Stands : Symbol → Symbol → Type 0) (rows : List (Row Symbol)) (whole : Word → ℕ) where

@@ -4,7 +4,7 @@ use Rattle.std.specs.List.{AllZip}
 use Rattle.constriction_model.specs.Model.{ClonesAreEqual}
 use Rattle.constriction_model.specs.Rows.{Row, RowsTile, entry_of}
 use Rattle.constriction_client.specs.declared.quantiles.QuantileFault.{QuantileFault}
-use Rattle.constriction_client.specs.Quantiles.{AreQuantiles, ArePairs, IsFaultOf, StopsAt}
+use Rattle.constriction_client.specs.Quantiles.{AreQuantiles, ArePairs, IsFaultOf, StopsAmong}
 
 -- the pairs are the items, one by one: their symbols are equal, and their offsets the same
 abbrev pub AreItems : {Symbol Word : Type 0} → (Symbol → Symbol → Bool) → List (Symbol × Word) → List (Symbol × Word)
@@ -31,4 +31,4 @@ ReadsBack Symbol Word words_in_order items_in_order =
 -- one of the items has no quantile for this reason, and all items before it have one
 abbrev pub HasFault : {Symbol Word : Type 0} → (Symbol → Option (ℕ × ℕ)) → (Word → ℕ) → List (Symbol × Word) → QuantileFault → Type 0
 HasFault {Word = Word} entry whole items fault =
-    StopsAt items (λ before item. (words : List Word) × AreQuantiles entry whole before words × IsFaultOf entry whole item fault)
+    StopsAmong items (λ before item. (words : List Word) × AreQuantiles entry whole before words × IsFaultOf entry whole item fault)

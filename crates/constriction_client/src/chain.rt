@@ -126,10 +126,7 @@ fn tabled_of<Symbol: Eq + Drop, Probability: IndexWord, const PRECISION: usize>(
     ensures kind { IfOk result (λ m. is_lookup m ≡ true) }
     ensures refused { IfErr result (λ e. e ≡ ModelError.OutOfMemory) }
 {
-    match model.into_lookup_decoder_model(alloc) {
-        Ok(model) => Ok(DecoderForm::Lookup(model)),
-        Err(error) => Err(error),
-    }
+    Ok(DecoderForm::Lookup(model.into_lookup_decoder_model(alloc)?))
 }
 
 /// A form that a chain can convert. A conversion keeps the rows, or makes them anew with clones of their
@@ -188,18 +185,12 @@ impl<Symbol: Eq + Clone + Drop, Probability: IndexWord, const PRECISION: usize> 
 
     fn to_search(&self, alloc: Global) -> Result<Self, ModelError> {
         symbols_differ_of(self);
-        match searched(alloc, self) {
-            Ok(model) => Ok(DecoderForm::Search(model)),
-            Err(error) => Err(error),
-        }
+        Ok(DecoderForm::Search(searched(alloc, self)?))
     }
 
     fn to_lookup(&self, alloc: Global) -> Result<Self, ModelError> {
         symbols_differ_of(self);
-        match searched(alloc, self) {
-            Ok(model) => tabled_of(alloc, model),
-            Err(error) => Err(error),
-        }
+        tabled_of(alloc, searched(alloc, self)?)
     }
 
     fn into_search(self) -> Self {
@@ -222,7 +213,7 @@ impl<Symbol: Eq + Clone + Drop, Probability: IndexWord, const PRECISION: usize> 
 }
 
 /// One conversion.
-fn convert<Symbol, Form: Converts<Symbol> + Drop>(
+fn convert_once<Symbol, Form: Converts<Symbol> + Drop>(
     alloc: Global,
     form: Form,
     step: &ChainStep,
@@ -253,7 +244,7 @@ fn convert_by<Symbol, Form: Converts<Symbol> + Drop>(
 {
     let mut form = form;
     for step in steps {
-        form = convert(alloc, form, step)?;
+        form = convert_once(alloc, form, step)?;
     }
     Ok(form)
 }

@@ -1,6 +1,6 @@
 //! Runs of calls: on a cursor, and on one that was turned round.
 
-ghost use Rattle.std.specs.Prelude.{◌≡◌, ◌<◌, ◌≤◌, [], length, IfOk, OnErr, vec_capacity};
+ghost use Rattle.std.specs.Prelude.{◌≡◌, ◌≤◌, [], length, IfOk, OnErr, vec_capacity};
 ghost use Rattle.constriction_backends.specs.Cursor.{buf_of, state_of};
 ghost use Rattle.constriction_backends.specs.CursorState.{reversal};
 ghost use Rattle.constriction_client.specs.CursorCalls.{RepliesTo, Runs};

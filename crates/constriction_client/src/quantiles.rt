@@ -58,7 +58,7 @@ fn quantile_within<Symbol, P: WholeNumber>(
 
 /// The quantile of an item.
 #[inline]
-fn quantile_of<E, const PRECISION: usize>(
+fn quantile_of_item<E, const PRECISION: usize>(
     encoder: &E,
     item: &(E::Symbol, E::Probability),
 ) -> Result<E::Probability, QuantileFault>
@@ -116,9 +116,9 @@ where
     ensures goes_on { W.can_write sink.new }
 {
     for item in items {
-        let word = match quantile_of(encoder, item) {
+        let word = match quantile_of_item(encoder, item) {
             Ok(word) => word,
-            Err(fault) => return Err(CoderError::Frontend(fault)),
+            Err(error) => return Err(CoderError::Frontend(error)),
         };
         match sink.write(word) {
             Ok(()) => {}
@@ -160,7 +160,7 @@ where
         };
         let pair = match pair_of(model, word) {
             Ok(pair) => pair,
-            Err(fault) => return Err(CoderError::Frontend(fault)),
+            Err(error) => return Err(CoderError::Frontend(error)),
         };
         match out.write(pair) {
             Ok(()) => {}

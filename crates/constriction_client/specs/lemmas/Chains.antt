@@ -26,6 +26,7 @@ module _ {Symbol : Type 0} (IsClone : Symbol → Symbol → Type 0) where
     same-step IntoSearch rows made h = h
     same-step Rebuild rows made h = same-rows IsClone same made rows h
 
+    -- if clones are the same values, a chain keeps the rows
     pub same-after : (steps : List ChainStep) (rows made : List (Row Symbol)) → ChainLeaves IsClone steps rows made → made ≡ rows
     same-after [] rows made h = h
     same-after (s ∷ ss) rows made h = same-after ss h.0 made h.2 ∙ same-step s rows h.0 h.1
@@ -37,6 +38,7 @@ module _ {Symbol : Type 0} (IsClone : Symbol → Symbol → Type 0) where
     entries-step IntoSearch rows made h = λ s. ap (λ (rs : List (Row Symbol)). entry_of eq rs s) h
     entries-step Rebuild rows made h = entries-made eq laws IsClone equal made rows h
 
+    -- if clones are equal, a chain keeps the entries
     pub entries-after : (steps : List ChainStep) (rows made : List (Row Symbol)) → ChainLeaves IsClone steps rows made
         → SameEntries eq made rows
     entries-after [] rows made h = λ s. ap (λ (rs : List (Row Symbol)). entry_of eq rs s) h

@@ -4,6 +4,7 @@ use Rattle.std.specs.List.{AllZip}
 use Rattle.constriction_model.specs.Rows.{Row}
 use Rattle.constriction_client.specs.Quantiles.{ArePairs, GivesPair}
 
+-- words that give pairs, one by one, have these pairs
 pub are-pairs : {Symbol Word : Type 0} (Stands : Symbol → Symbol → Type 0) (rows : List (Row Symbol)) (whole : Word → ℕ) (precision : ℕ)
     (MayLackMemory : ℕ → Type 0) (words : List Word) (pairs : List (Symbol × Word))
     → AllZip (λ word pair. GivesPair Stands rows whole precision MayLackMemory word (Ok pair)) words pairs

@@ -58,7 +58,7 @@ where
         Ok(_) => Ok(pairs),
         Err(CoderError::Frontend(ReadFault::OutOfMemory)) => Err(AllocError),
         Err(CoderError::Frontend(ReadFault::QuantileTooLarge)) => unreachable!(),
-        Err(CoderError::Backend(never)) => match never {},
+        Err(CoderError::Backend(error)) => match error {},
     }
 }
 
@@ -80,10 +80,7 @@ where
         → HasFault (entry_of E.symbol_eq (E.rows encoder.now)) D.Probability.whole items.now fault }
 {
     let mut words = Vec::new(alloc);
-    match write_quantiles(encoder, items, &mut words) {
-        Ok(()) => {}
-        Err(fault) => return Err(fault),
-    }
+    write_quantiles(encoder, items, &mut words)?;
     match read_back::<Stack, _, _, PRECISION>(alloc, decoder, &mut words, items.len()) {
         Ok(pairs) => Ok(pairs),
         Err(error) => Err(CoderError::Backend(error)),
@@ -145,10 +142,9 @@ where
     let start = cursor.pos();
     match write_quantiles(encoder, items, cursor) {
         Ok(()) => {}
-        Err(CoderError::Frontend(fault)) => return Err(CoderError::Frontend(fault)),
-        Err(CoderError::Backend(full)) => {
-            let refused = ReadWriteError::Write(full);
-            return Err(CoderError::Backend(refused));
+        Err(CoderError::Frontend(error)) => return Err(CoderError::Frontend(error)),
+        Err(CoderError::Backend(error)) => {
+            return Err(CoderError::Backend(ReadWriteError::Write(error)));
         }
     }
     match cursor.seek(start) {
@@ -183,10 +179,7 @@ where
     ensures err { IfErr result (λ error. EndsPlacing (entry_of E.symbol_eq (E.rows encoder.now)) D.Probability.whole
         Buf.with_words cursor.old items.now error cursor.new) }
 {
-    match write_and_go_back(encoder, items, cursor) {
-        Ok(()) => {}
-        Err(error) => return Err(error),
-    }
+    write_and_go_back(encoder, items, cursor)?;
     match read_back::<Queue, _, _, PRECISION>(alloc, decoder, cursor, items.len()) {
         Ok(pairs) => Ok(pairs),
         Err(error) => Err(CoderError::Backend(ReadWriteError::Read(error))),

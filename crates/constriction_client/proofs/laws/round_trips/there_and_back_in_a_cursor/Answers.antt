@@ -7,7 +7,7 @@ use Rattle.constriction_client.proofs.laws.round_trips.there_and_back_in_a_curso
 
 pub read_back-requires-clause-come : goal.read_back-requires-clause-come
 read_back-requires-clause-come g c =
-    let back = c.in-Ok.ensures.ok in
+    let back = c.in_ok-write_and_go_back.ensures.ok in
     let entry = entry_of g.E.EncoderModel.symbol_eq (g.E.EntropyModel.rows c.args.encoder.now) in
     record {
       words = back.placed.words;
@@ -21,11 +21,11 @@ read_back-requires-clause-come g c =
           (g.met.E.EncoderModel.within_law c.args.encoder.now) back.placed.quantiles;
     }
 
-pub returns-in-Ok-read_back : goal.returns-in-Ok-read_back
-returns-in-Ok-read_back g c =
-    let back = c.in-Ok.ensures.ok in
+pub returns-in-Ok : goal.returns-in-Ok
+returns-in-Ok g c =
+    let back = c.in_ok-write_and_go_back.ensures.ok in
     let entry = entry_of g.E.EncoderModel.symbol_eq (g.E.EntropyModel.rows c.args.encoder.now) in
-    let read = c.in-Ok-read_back.ensures.ok back.placed.words
+    let read = c.in-Ok.ensures.ok back.placed.words
     (come-next entry g.D.Probability.WholeNumber.whole g.Buf.SafeBufMut.with_words c.args.cursor.now c.args.items.now
     c.write_and_go_back.new.cursor back)
     (as-many entry g.D.Probability.WholeNumber.whole c.args.items.now back.placed.words back.placed.quantiles) in
@@ -33,7 +33,7 @@ returns-in-Ok-read_back g c =
       ok =
           stand-back g.D.DecoderModel.stands_for g.E.EncoderModel.symbol_eq g.met.E.EncoderModel.equality_law entry g.D.Probability.WholeNumber.whole
           g.D.Probability.WholeNumber.BITS g.row.PRECISION (g.D.EntropyModel.rows c.args.decoder.now) c.args.items.now
-          c.in-Ok-read_back.pairs.items back.placed.words (g.met.D.DecoderModel.tile_law c.args.decoder.now)
+          c.in-Ok.pairs.items back.placed.words (g.met.D.DecoderModel.tile_law c.args.decoder.now)
           g.met.D.Probability.WholeNumber.same_law c.requires.alike back.placed.quantiles read.0;
       placed =
           placed-again entry g.D.Probability.WholeNumber.whole g.Buf.SafeBufMut.with_words c.args.cursor.now c.args.items.now Infallible back.reached
@@ -41,9 +41,9 @@ returns-in-Ok-read_back g c =
       err = tt;
     }
 
-pub returns-in-Err-read_back : goal.returns-in-Err-read_back
-returns-in-Err-read_back g c =
-    let back = c.in-Ok.ensures.ok in
-    let read = c.in-Err-read_back.ensures.err in
+pub returns-in-Err : goal.returns-in-Err
+returns-in-Err g c =
+    let back = c.in_ok-write_and_go_back.ensures.ok in
+    let read = c.in-Err.ensures.err in
     let on = reads-on Infallible c.write_and_go_back.new.cursor read.0 c.read_back.new.source read.1 in
     record { ok = tt; placed = tt; err = (back.reached, back.placed, on.2 ∙ back.buf) }

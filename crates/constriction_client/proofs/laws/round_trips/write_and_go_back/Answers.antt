@@ -10,7 +10,7 @@ returns-in-Err-Frontend g c = record {
       fault-placed g.Buf.SafeBufMut.with_words
       (entry_of g.E.EncoderModel.symbol_eq (g.E.EntropyModel.rows c.args.encoder.now)) g.E.Probability.WholeNumber.whole
       _ c.extending_overwrites.ensures c.args.cursor.now c.args.items.now c.write_quantiles.new.sink
-      c.in-Err-Frontend.fault (rw c.in-Err-Frontend.field-0-is at c.in-Err-Frontend.ensures.err);
+      c.in-Err-Frontend.error (rw c.in-Err-Frontend.field-0-is at c.in-Err-Frontend.ensures.err);
 }
 
 pub returns-in-Err-Backend : goal.returns-in-Err-Backend
@@ -20,7 +20,7 @@ returns-in-Err-Backend g c = record {
       full-placed g.Buf.SafeBufMut.with_words
       (entry_of g.E.EncoderModel.symbol_eq (g.E.EntropyModel.rows c.args.encoder.now)) g.E.Probability.WholeNumber.whole
       _ c.extending_overwrites.ensures c.args.cursor.now c.args.items.now c.write_quantiles.new.sink
-      c.in-Err-Backend.full (rw c.in-Err-Backend.field-0-is at c.in-Err-Backend.ensures.err);
+      c.in-Err-Backend.error (rw c.in-Err-Backend.field-0-is at c.in-Err-Backend.ensures.err);
 }
 
 pub unreachable-requires : goal.unreachable-requires
