@@ -20,6 +20,7 @@ pub never-invalid : {A P : Type 0} (r : Result A ModelError) → IfErr r (λ e. 
 never-invalid (Ok x) refused is = absurd (cc)
 never-invalid (Err e) refused is = absurd (cc)
 
+-- want of memory decides nothing
 pub refused-decided : {Answers Accepted : Type 0} {Tells : Answers → Type 0} (r : Result Answers ModelError) → r ≡ Err OutOfMemory
     → IsDecidedBy r Accepted Tells
 refused-decided (Ok x) is = absurd (cc)
