@@ -88,7 +88,7 @@ pub fn read_over_a_loan<Buf: SafeBufMut<u8>>(cursor: &mut Cursor<u8, Buf>) -> Op
     let _ = words;
     match read {
         Ok(word) => word,
-        Err(never) => match never {},
+        Err(error) => match error {},
     }
 }
 
@@ -108,7 +108,7 @@ pub fn read_a_slice(words: &mut [u8]) -> Option<u8>
     let mut cursor = Cursor::<u8, &mut [u8]>::new_at_write_beginning(words);
     match ReadWords::<u8, Queue>::read(&mut cursor) {
         Ok(word) => word,
-        Err(never) => match never {},
+        Err(error) => match error {},
     }
 }
 

@@ -1,6 +1,6 @@
 //! A model of the caller's own: its rows, its answers to a symbol and to a quantile, and its symbol table.
 
-ghost use Rattle.std.specs.Prelude.{◌≡◌, ◌<◌, ◌-◌, ◌∷◌, [], drop, nat_eq};
+ghost use Rattle.std.specs.Prelude.{◌≡◌, ◌-◌, ◌∷◌, [], drop, nat_eq};
 ghost use Rattle.std.specs.Iterator.{at_most};
 ghost use Rattle.std.specs.Cmp.{nat_eq_equiv};
 ghost use Rattle.std.proofs.Common.{lit<, lit≤, refl, rules};

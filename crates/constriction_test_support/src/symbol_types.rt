@@ -1,6 +1,6 @@
 //! A symbol type that refuses to clone one of its values, and a model over it.
 
-ghost use Rattle.std.specs.Prelude.{◌≡◌, ◌==◌, ◌<◌};
+ghost use Rattle.std.specs.Prelude.{◌≡◌};
 
 use crate::conversions::Decoder;
 use constriction::stream::model::ModelError;
