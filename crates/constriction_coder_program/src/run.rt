@@ -1,7 +1,8 @@
 //! A run over a reader and a writer.
 
 use crate::answers::push_answer;
-use constriction_text::{RunFault, first_line, read_input, write_whole};
+use constriction_io::write_whole;
+use constriction_text::{RunFault, first_line, read_input};
 use std::alloc::Global;
 use std::io::{BufWriter, Read, Write};
 

@@ -6,7 +6,7 @@ use Rattle.constriction_model.specs.Acceptance.{completed}
 use Rattle.constriction_model.specs.Rows.{Row, contiguous_rows}
 use Rattle.constriction_text.specs.declared.line.Format.{Format}
 use Rattle.constriction_text.specs.private.Answering.{are_accepted, text_of_model, answer_of, reply_to, answer_to, answers_of}
-use Rattle.constriction_text.specs.Grammar.{Request, table, infer, quantile, symbol, uniform, bits_of, precision_of, Spells}
+use Rattle.constriction_text.specs.Grammar.{Request, table, infer, quantile, symbol, uniform, width_of, precision_of, Spells}
 use Rattle.constriction_text.specs.private.Reading.{read_line}
 use Rattle.constriction_text.specs.Text.{IsTextOfModel, Answers, IsAnswer, AreAnswers, rows_text, quantile_text, symbol_text}
 use Rattle.constriction_text.proofs.Accepting.{are_accepted-to, are_accepted-from}
@@ -19,16 +19,16 @@ one_request line one other first second = same_Some one other (sym (line_read li
 -- ---- the text of a model
 
 module _ (format : Format) (weights : List ℕ) (of_rows : List (Row ℕ) → List ℕ) where
-  model_text-at : (b : Bool) → are_accepted (bits_of format) (precision_of format) weights ≡ b
+  model_text-at : (b : Bool) → are_accepted (width_of format) (precision_of format) weights ≡ b
       → IsTextOfModel format weights of_rows (cond b (of_rows (contiguous_rows weights)) (codes "invalid\n"))
-  model_text-at true e = inl (are_accepted-to (bits_of format) (precision_of format) weights e, refl)
+  model_text-at true e = inl (are_accepted-to (width_of format) (precision_of format) weights e, refl)
   model_text-at false e = inr (
-    λ accepted. let wrong : true ≡ false = sym (are_accepted-from (bits_of format) (precision_of format) weights accepted) ∙ e in cc,
+    λ accepted. let wrong : true ≡ false = sym (are_accepted-from (width_of format) (precision_of format) weights accepted) ∙ e in cc,
     refl,
   )
 
-  model_text : IsTextOfModel format weights of_rows (text_of_model (bits_of format) (precision_of format) weights of_rows)
-  model_text = model_text-at (are_accepted (bits_of format) (precision_of format) weights) refl
+  model_text : IsTextOfModel format weights of_rows (text_of_model (width_of format) (precision_of format) weights of_rows)
+  model_text = model_text-at (are_accepted (width_of format) (precision_of format) weights) refl
 
   model_text-alone : (one other : List ℕ) → IsTextOfModel format weights of_rows one → IsTextOfModel format weights of_rows other
       → one ≡ other

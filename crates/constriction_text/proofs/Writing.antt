@@ -1,41 +1,14 @@
 -- What is written, turn by turn.
-use Rattle.std.proofs.Common.{◌≡◌, ℕ, ◌+◌, ◌-◌, List, [], ◌∷◌, ◌++◌, Option, ap, refl, sym, ◌∙◌, subst, length, take, drop, arith, append-nil, append_assoc, take-append-drop, length-drop, take_all}
-use Rattle.std.specs.Io.KnownBytes.{Appends, Keeps}
-use Rattle.std.proofs.KnownBytes.{Appends-nil, Appends-trans, Appends-kept}
+use Rattle.std.proofs.Common.{◌≡◌, ℕ, List, [], ◌∷◌, ◌++◌, Option, ap, refl, sym, ◌∙◌, subst}
+use Rattle.std.proofs.Common.{length, arith, append-nil, append_assoc}
+use Rattle.std.specs.Io.KnownBytes.{Appends}
+use Rattle.std.proofs.KnownBytes.{Appends-nil, Appends-trans}
 use Rattle.std.proofs.lemmas.List.Concat.{flat_map-append}
-use lib.Seq.{take-add}
 use Rattle.constriction_text.specs.private.Answering.{answer_to, answers_of, text_of}
 use Rattle.constriction_text.specs.Text.{IsTextOf, lines_of}
 use Rattle.constriction_text.proofs.OneAnswer.{are_answers}
 use Rattle.constriction_text.specs.private.Collecting.{WritesFront}
 use Rattle.constriction_text.specs.Runs.{WritesBeginning, WritesAnswersBefore}
-
--- the slice from an index on
-pub rest_of : (at : ℕ) (bytes : List ℕ) → take (length bytes - at) (drop at bytes) ≡ drop at bytes
-rest_of at bytes = take_all (length bytes - at) (drop at bytes) (omega (arith, length-drop at bytes))
-
--- after a turn that took some bytes, a longer beginning was written
-pub written_more : (a b c : Option (List ℕ)) (at count : ℕ) (bytes : List ℕ) → Appends a b (take at bytes)
-    → Appends b c (take count (take (length bytes - at) (drop at bytes))) → Appends a c (take (at + count) bytes)
-written_more a b c at count bytes before turn =
-    subst (Appends a c) (ap (λ r. take at bytes ++ take count r) (rest_of at bytes)
-    ∙ sym (take-add at count bytes)) (Appends-trans a b c _ _ before turn)
-
--- after a turn that took no bytes, a beginning was written
-pub stopped_at : (a b c : Option (List ℕ)) (at : ℕ) (bytes : List ℕ) → Appends a b (take at bytes) → Keeps b c
-    → WritesBeginning a c bytes
-stopped_at a b c at bytes before kept =
-    (take at bytes, drop at bytes, take-append-drop at bytes, Appends-kept a b c (take at bytes) before kept)
-
-pub stopped_empty : (a b c : Option (List ℕ)) (at : ℕ) (bytes : List ℕ) → Appends a b (take at bytes) → Appends b c []
-    → WritesBeginning a c bytes
-stopped_empty a b c at bytes before turn = (
-  take at bytes,
-  drop at bytes,
-  take-append-drop at bytes,
-  subst (Appends a c) (append-nil (take at bytes))
-      (Appends-trans a b c _ _ before turn),
-)
 
 -- the lines so far, and one more
 lines_more : (first : List (List ℕ)) (line input rest after : List ℕ) → first ++ lines_of rest ≡ lines_of input

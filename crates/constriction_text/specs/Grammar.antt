@@ -14,10 +14,10 @@ format_word U8Precision8 = codes "u8/8"
 format_word U16Precision12 = codes "u16/12"
 
 -- how many bits the probabilities of a format have
-abbrev pub bits_of : Format → ℕ
-bits_of U8Precision6 = 8
-bits_of U8Precision8 = 8
-bits_of U16Precision12 = 16
+abbrev pub width_of : Format → ℕ
+width_of U8Precision6 = 8
+width_of U8Precision8 = 8
+width_of U16Precision12 = 16
 
 -- the precision of a format: its probabilities sum to 2 to this power
 abbrev pub precision_of : Format → ℕ

@@ -1,6 +1,8 @@
 -- What a run reads and writes.
 use Rattle.std.specs.Prelude.{ℕ, ◌≡◌, ◌≤◌, List, ◌∷◌, ◌++◌, length, Option}
 use Rattle.std.specs.Io.KnownBytes.{Appends, Consumes, IsAtEnd}
+use Rattle.constriction_io.specs.declared.reading.ReadError.{ReadError}
+use Rattle.constriction_io.specs.declared.reading.ReadError.TheVariants.{Reader}
 use Rattle.constriction_text.specs.declared.fault.RunFault.{RunFault}
 use Rattle.constriction_text.specs.declared.fault.RunFault.TheVariants.{Read, Write, TooLong, OutOfMemory}
 use Rattle.constriction_text.specs.Text.{AreAnswers, lines_of}
@@ -15,6 +17,11 @@ status_of Read = 1
 status_of Write = 1
 status_of TooLong = 2
 status_of OutOfMemory = 3
+
+-- the fault of a run that a read stops
+abbrev pub of_reading : ReadError → RunFault
+of_reading (Reader error) = Read
+of_reading other = OutOfMemory
 
 -- some bytes were read, and P holds of them
 abbrev pub HasRead : Option (List ℕ) → Option (List ℕ) → (List ℕ → Type 0) → Type 0

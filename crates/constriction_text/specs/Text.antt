@@ -7,7 +7,7 @@ use Rattle.constriction_model.specs.Acceptance.{IsAccepted, completed}
 use Rattle.constriction_model.specs.Rows.{Row, contiguous_rows, uniform_rows, entry_of}
 use Rattle.constriction_model.specs.Scanning.{holds}
 use Rattle.constriction_text.specs.declared.line.Format.{Format}
-use Rattle.constriction_text.specs.Grammar.{Request, table, infer, quantile, symbol, uniform, bits_of, precision_of, Spells}
+use Rattle.constriction_text.specs.Grammar.{Request, table, infer, quantile, symbol, uniform, width_of, precision_of, Spells}
 
 -- the parts without the last one if that is empty
 abbrev pub without_last_empty : List (List ℕ) → List (List ℕ)
@@ -47,8 +47,8 @@ uniform_text precision n =
 -- the text is that of the rows of these weights, or says that they are invalid
 abbrev pub IsTextOfModel : Format → List ℕ → (List (Row ℕ) → List ℕ) → List ℕ → Type 0
 IsTextOfModel format weights text_of_rows text =
-    (IsAccepted (bits_of format) (precision_of format) weights × (text ≡ text_of_rows (contiguous_rows weights)))
-    ⊎ (¬ (IsAccepted (bits_of format) (precision_of format) weights) × (text ≡ codes "invalid\n"))
+    (IsAccepted (width_of format) (precision_of format) weights × (text ≡ text_of_rows (contiguous_rows weights)))
+    ⊎ (¬ (IsAccepted (width_of format) (precision_of format) weights) × (text ≡ codes "invalid\n"))
 
 -- the text answers the request
 abbrev pub Answers : Request → List ℕ → Type 0

@@ -7,7 +7,7 @@ ghost use Rattle.constriction_model.specs.Acceptance.{completed};
 ghost use Rattle.constriction_model.specs.Precision.{IsPrecision};
 ghost use Rattle.constriction_model.specs.Rows.{contiguous_rows};
 ghost use Rattle.constriction_text.specs.private.Answering.{answer_of, answer_to, are_accepted, text_of_model};
-ghost use Rattle.constriction_text.specs.Grammar.{bits_of, format_of, precision_of, view};
+ghost use Rattle.constriction_text.specs.Grammar.{width_of, format_of, precision_of, view};
 ghost use Rattle.constriction_text.specs.Text.{IsAnswer, rows_text, quantile_text, symbol_text, uniform_text};
 
 use crate::format_word::{FormatWord, UniformWord, push_row, push_rows};
@@ -170,7 +170,7 @@ fn push_at<Word: UniformWord<PRECISION>, const PRECISION: usize>(
 ) -> Result<(), AllocError>
     requires precise { IsPrecision Word.BITS PRECISION }
     requires small { PRECISION < 64 }
-    requires bits { Word.BITS ≡ bits_of (format_of (view command.now)) }
+    requires bits { Word.BITS ≡ width_of (format_of (view command.now)) }
     requires precision { PRECISION ≡ precision_of (format_of (view command.now)) }
     ensures { OnOk result (string_bytes text.new ≡ string_bytes text.old
         ++ answer_of (view command.now)) }

@@ -3,12 +3,13 @@
 ghost use Rattle.std.specs.Prelude.{◌≡◌};
 ghost use Rattle.constriction_text.specs.Runs.{status_of};
 
+use constriction_io::{ReadError, WriteError};
 use thiserror::Error;
 
 /// What stops a run before the whole text is written.
 #[derive(Debug, Clone, Copy, PartialEq, Eq, Drop, Error)]
 pub enum RunFault {
-    /// The reader answered an error, which may be an interruption. Nothing was written.
+    /// The reader answered an error. Nothing was written.
     #[error("The input could not be read.")]
     Read,
     /// The writer answered an error, or took no byte. A beginning of the text was written.
@@ -17,8 +18,8 @@ pub enum RunFault {
     /// The input is longer than 1,048,576 bytes. Nothing was written.
     #[error("The input is too long.")]
     TooLong,
-    /// Memory was refused. If it was asked for to answer a line, the answers to the lines before it were written, each whole;
-    /// otherwise nothing was written.
+    /// Memory was refused. If it was asked for to answer a line, the answers to the lines before it
+    /// were written, each whole; otherwise nothing was written.
     #[error("Memory was refused.")]
     OutOfMemory,
 }
@@ -33,5 +34,28 @@ impl RunFault {
             RunFault::TooLong => 2,
             RunFault::OutOfMemory => 3,
         }
+    }
+}
+
+impl From<ReadError> for RunFault {
+    ghost use Rattle.constriction_text.specs.Runs.{of_reading};
+
+    ghost from_gives = { λ error fault. fault ≡ of_reading error };
+
+    fn from(error: ReadError) -> Self {
+        match error {
+            ReadError::Reader(_) => RunFault::Read,
+            ReadError::OutOfMemory => RunFault::OutOfMemory,
+        }
+    }
+}
+
+impl From<WriteError> for RunFault {
+    ghost use Rattle.constriction_text.specs.declared.fault.RunFault.TheVariants.{Write};
+
+    ghost from_gives = { λ _ fault. fault ≡ Write };
+
+    fn from(_error: WriteError) -> Self {
+        RunFault::Write
     }
 }

@@ -14,4 +14,4 @@ mod program;
 pub use crate::answers::answer;
 pub use crate::fault::RunFault;
 pub use crate::line::{Command, Format, cut, parse, parse_number};
-pub use crate::program::{first_line, read_input, run, write_whole};
+pub use crate::program::{first_line, read_input, run};

@@ -3,7 +3,8 @@
 ghost use Rattle.std.specs.Prelude.{◌≡◌, ◌≢◌, ◌<◌, ◌≤◌, ◌+◌, ◌++◌, ◌∷◌, ◌⊎◌, ℕ, List, Err, length};
 ghost use Rattle.std.specs.Prelude.{IfOk, IfErr, OnOk, OnErr, string_bytes};
 ghost use Rattle.std.specs.Io.KnownBytes.{Appends, Consumes, IsAtEnd, Keeps};
-ghost use Rattle.constriction_text.specs.Runs.{limit, HasRead, HasReadAll, WritesBeginning, WritesAnswersBefore};
+ghost use Rattle.constriction_text.specs.Runs.{limit, HasRead, HasReadAll, WritesBeginning};
+ghost use Rattle.constriction_text.specs.Runs.{WritesAnswersBefore};
 ghost use Rattle.constriction_text.specs.private.Collecting.{WritesFront};
 ghost use Rattle.constriction_text.specs.private.Answering.{answer_to};
 ghost use Rattle.constriction_text.specs.Text.{IsTextOf, lines_of};
@@ -11,90 +12,34 @@ ghost use Rattle.constriction_text.specs.Text.{IsTextOf, lines_of};
 use crate::answers::push_answer;
 use crate::fault::RunFault;
 use crate::line::cut;
+use constriction_io::{read_up_to, write_whole};
 use std::alloc::{AllocError, Global};
 use std::io::{Read, Write};
 
 /// The most bytes of an input.
 const LIMIT: usize = 1_048_576;
 
-/// The most bytes that one turn of the reader takes.
-const CHUNK: usize = 8192;
-
 /// Collected answers are written once they have this many bytes.
 const FLUSH_AT: usize = 65_536;
 
-/// Reads once, at most `room` bytes, and puts them at the end of the input. Answers how many bytes
-/// came.
-fn read_turn<R: Read>(
-    reader: &mut R,
-    room: usize,
-    chunk: &mut [u8],
-    input: &mut Vec<u8>,
-) -> Result<usize, RunFault>
-    requires some { 0 < room }
-    requires place { 0 < length chunk.old }
-    ensures ok { IfOk result (λ count. HasRead (R.remaining reader.old) (R.remaining reader.new) (λ bytes.
-        (input.new.items ≡ input.old.items ++ bytes) × (length bytes ≡ count) × (count ≤ room))) }
-    ensures end { IfOk result (λ count. count ≡ 0 → IsAtEnd (R.remaining reader.new)) }
-    ensures err { OnErr result (HasRead (R.remaining reader.old) (R.remaining reader.new)
-        (λ bytes. length bytes ≤ room)) }
-    ensures faults { IfErr result (λ fault. (fault ≢ RunFault.Write) × (fault ≢ RunFault.TooLong)) }
-{
-    let most = room.min(chunk.len());
-    let part = &mut chunk[..most];
-    let count = match reader.read(part) {
-        Ok(count) => count,
-        Err(_) => return Err(RunFault::Read),
-    };
-    match input.extend_from_slice(&part[..count]) {
-        Ok(()) => Ok(count),
-        Err(_) => Err(RunFault::OutOfMemory),
-    }
-}
-
-/// Reads to the end, or to one byte past the limit of 1,048,576 bytes, and then fails with `TooLong`. After an
-/// error the reader is not called again.
+/// Reads to the end, or to one byte past the limit of 1,048,576 bytes, and then fails with
+/// `TooLong`. An interrupted read is tried again; after another error the reader is not called.
 pub fn read_input<R: Read>(alloc: Global, reader: &mut R) -> Result<Vec<u8>, RunFault>
-    ensures ok { IfOk result (λ input. (length input.items ≤ limit) × IsAtEnd (R.remaining reader.new)
+    ensures ok { IfOk result (λ input. (length input.items ≤ limit)
+        × IsAtEnd (R.remaining reader.new)
         × Consumes (R.remaining reader.old) (R.remaining reader.new) input.items) }
     ensures too_long { result ≡ Err RunFault.TooLong →
         HasRead (R.remaining reader.old) (R.remaining reader.new) (λ input. limit < length input) }
-    ensures err { OnErr result
-        (HasRead (R.remaining reader.old) (R.remaining reader.new) (λ input. length input ≤ limit + 1)) }
-    ensures faults { IfErr result (λ fault. fault ≢ RunFault.Write) }
+    ensures err { OnErr result (HasRead (R.remaining reader.old) (R.remaining reader.new)
+        (λ input. length input ≤ limit + 1)) }
+    ensures errors { IfErr result (λ error. error ≢ RunFault.Write) }
 {
-    let mut chunk = [0u8; CHUNK];
     let mut input = Vec::new(alloc);
-    while input.len() <= LIMIT {
-        let room = LIMIT + 1 - input.len();
-        if read_turn(reader, room, &mut chunk, &mut input)? == 0 {
-            return Ok(input);
-        }
+    read_up_to(reader, LIMIT + 1, &mut input)?;
+    if input.len() > LIMIT {
+        return Err(RunFault::TooLong);
     }
-    Err(RunFault::TooLong)
-}
-
-/// Writes all of the bytes, in as many calls as the writer needs.
-///
-/// It fails with `Write` if the writer answers an error or takes no byte; a beginning of the bytes was then
-/// written.
-pub fn write_whole<W: Write>(writer: &mut W, bytes: &[u8]) -> Result<(), RunFault>
-    ensures ok { OnOk result (Appends (W.contents writer.old) (W.contents writer.new) bytes.now) }
-    ensures err { OnErr result (WritesBeginning (W.contents writer.old) (W.contents writer.new) bytes.now) }
-    ensures fault { OnErr result (result ≡ Err RunFault.Write) }
-{
-    let mut at = 0;
-    while at < bytes.len() {
-        let count = match writer.write(&bytes[at..]) {
-            Ok(count) => count,
-            Err(_) => return Err(RunFault::Write),
-        };
-        if count == 0 {
-            return Err(RunFault::Write);
-        }
-        at += count;
-    }
-    Ok(())
+    Ok(input)
 }
 
 /// The first line of bytes, and what follows the byte 10 that ends it.
@@ -110,8 +55,8 @@ pub fn first_line(bytes: &[u8]) -> (&[u8], &[u8])
     }
 }
 
-/// Collects the answer to a line. The answer is first made whole in `one`, whose memory is used again,
-/// so if memory is refused, what was collected before stays.
+/// Collects the answer to a line. The answer is first made whole in `one`, whose memory is used
+/// again, so if memory is refused, what was collected before stays.
 fn collect_answer(
     alloc: Global,
     line: &[u8],
@@ -141,13 +86,14 @@ fn write_many<W: Write>(writer: &mut W, text: &mut String) -> Result<(), RunFaul
     Ok(())
 }
 
-/// Writes the answers that were collected before memory was refused, and answers the fault of the run.
+/// Writes the answers that were collected before memory was refused, and answers the fault of the
+/// run.
 fn write_last<W: Write>(writer: &mut W, answers: &[u8]) -> RunFault
     ensures out_of_memory { result ≡ RunFault.OutOfMemory →
         Appends (W.contents writer.old) (W.contents writer.new) answers.now }
     ensures write { result ≡ RunFault.Write →
         WritesBeginning (W.contents writer.old) (W.contents writer.new) answers.now }
-    ensures faults { (result ≢ RunFault.Read) × (result ≢ RunFault.TooLong) }
+    ensures errors { (result ≢ RunFault.Read) × (result ≢ RunFault.TooLong) }
 {
     match write_whole(writer, answers) {
         Ok(()) => RunFault::OutOfMemory,
@@ -163,9 +109,10 @@ fn write_answers<W: Write>(alloc: Global, input: &[u8], writer: &mut W) -> Resul
         × Appends (W.contents writer.old) (W.contents writer.new) text) }
     ensures out_of_memory { result ≡ Err RunFault.OutOfMemory →
         WritesAnswersBefore (W.contents writer.old) (W.contents writer.new) input.now }
-    ensures write { result ≡ Err RunFault.Write →
-        (written rest : List ℕ) × IsTextOf input.now (written ++ rest) × Appends (W.contents writer.old) (W.contents writer.new) written }
-    ensures faults { IfErr result (λ fault. (fault ≢ RunFault.Read) × (fault ≢ RunFault.TooLong)) }
+    ensures write { result ≡ Err RunFault.Write → (written rest : List ℕ)
+        × IsTextOf input.now (written ++ rest)
+        × Appends (W.contents writer.old) (W.contents writer.new) written }
+    ensures errors { IfErr result (λ error. (error ≢ RunFault.Read) × (error ≢ RunFault.TooLong)) }
 {
     let mut text = String::new(alloc);
     let mut one = String::new(alloc);
@@ -179,27 +126,33 @@ fn write_answers<W: Write>(alloc: Global, input: &[u8], writer: &mut W) -> Resul
         write_many(writer, &mut text)?;
         rest = after;
     }
-    write_whole(writer, text.as_bytes())
+    write_whole(writer, text.as_bytes())?;
+    Ok(())
 }
 
 /// Reads an input to its end, and writes the answers to its lines.
 ///
-/// The writer is not flushed: give one that holds nothing back. An input has at most 1,048,576 bytes; of a
-/// longer one, at most one byte more is read. After the reader or the writer answered an error, neither is
-/// called again.
+/// The writer is not flushed: give one that holds nothing back. An input has at most 1,048,576
+/// bytes; of a longer one, at most one byte more is read. An interrupted call is made again; after
+/// another error of the reader or the writer, neither is called.
 pub fn run<R: Read, W: Write>(alloc: Global, reader: &mut R, writer: &mut W) -> Result<(), RunFault>
-    ensures ok { OnOk result (HasReadAll (R.remaining reader.old) (R.remaining reader.new) (λ input.
-        (text : List ℕ) × IsTextOf input text × Appends (W.contents writer.old) (W.contents writer.new) text)) }
+    ensures ok { OnOk result (HasReadAll (R.remaining reader.old) (R.remaining reader.new)
+        (λ input. (text : List ℕ) × IsTextOf input text
+        × Appends (W.contents writer.old) (W.contents writer.new) text)) }
     ensures too_long { result ≡ Err RunFault.TooLong →
         HasRead (R.remaining reader.old) (R.remaining reader.new) (λ input. limit < length input) }
-    ensures nothing_written { IfErr result (λ fault. (fault ≡ RunFault.Read) ⊎ (fault ≡ RunFault.TooLong) →
-        Keeps (W.contents writer.old) (W.contents writer.new)) }
-    ensures out_of_memory { result ≡ Err RunFault.OutOfMemory → Keeps (W.contents writer.old) (W.contents writer.new)
+    ensures nothing_written { IfErr result (λ error. (error ≡ RunFault.Read)
+        ⊎ (error ≡ RunFault.TooLong) → Keeps (W.contents writer.old) (W.contents writer.new)) }
+    ensures out_of_memory { result ≡ Err RunFault.OutOfMemory
+        → Keeps (W.contents writer.old) (W.contents writer.new)
         ⊎ HasReadAll (R.remaining reader.old) (R.remaining reader.new)
         (WritesAnswersBefore (W.contents writer.old) (W.contents writer.new)) }
-    ensures write { result ≡ Err RunFault.Write → HasReadAll (R.remaining reader.old) (R.remaining reader.new) (λ input.
-        (written rest : List ℕ) × IsTextOf input (written ++ rest) × Appends (W.contents writer.old) (W.contents writer.new) written) }
-    ensures taken { HasRead (R.remaining reader.old) (R.remaining reader.new) (λ input. length input ≤ limit + 1) }
+    ensures write { result ≡ Err RunFault.Write
+        → HasReadAll (R.remaining reader.old) (R.remaining reader.new)
+        (λ input. (written rest : List ℕ) × IsTextOf input (written ++ rest)
+        × Appends (W.contents writer.old) (W.contents writer.new) written) }
+    ensures taken { HasRead (R.remaining reader.old) (R.remaining reader.new)
+        (λ input. length input ≤ limit + 1) }
 {
     let input = read_input(alloc, reader)?;
     write_answers(alloc, &input, writer)

@@ -3,7 +3,7 @@ use Rattle.std.specs.Prelude.{ℕ, ◌^◌, Bool, true, ◌&&◌, ◌==◌, nat_
 use Rattle.std.specs.List.{flat_map, list_all}
 use Rattle.constriction_model.specs.Acceptance.{completed}
 use Rattle.constriction_model.specs.Rows.{Row, contiguous_rows}
-use Rattle.constriction_text.specs.Grammar.{Request, table, infer, quantile, symbol, uniform, bits_of, precision_of}
+use Rattle.constriction_text.specs.Grammar.{Request, table, infer, quantile, symbol, uniform, width_of, precision_of}
 use Rattle.constriction_text.specs.private.Reading.{read_line}
 use Rattle.constriction_text.specs.Text.{lines_of, rows_text, quantile_text, symbol_text, uniform_text}
 
@@ -19,12 +19,12 @@ text_of_model bits precision weights text =
 
 -- the text that answers a request; only `infer` infers the last weight
 unfoldable pub answer_of : Request → List ℕ
-answer_of (table format weights) = text_of_model (bits_of format) (precision_of format) weights rows_text
+answer_of (table format weights) = text_of_model (width_of format) (precision_of format) weights rows_text
 answer_of (infer format weights) =
-    text_of_model (bits_of format) (precision_of format) (completed (precision_of format) true weights) rows_text
+    text_of_model (width_of format) (precision_of format) (completed (precision_of format) true weights) rows_text
 answer_of (quantile format q weights) =
-    text_of_model (bits_of format) (precision_of format) weights (λ rows. quantile_text (precision_of format) rows q)
-answer_of (symbol format s weights) = text_of_model (bits_of format) (precision_of format) weights (λ rows. symbol_text rows s)
+    text_of_model (width_of format) (precision_of format) weights (λ rows. quantile_text (precision_of format) rows q)
+answer_of (symbol format s weights) = text_of_model (width_of format) (precision_of format) weights (λ rows. symbol_text rows s)
 answer_of (uniform format n) = uniform_text (precision_of format) n
 
 -- the answer to a line that spells this request, or none

@@ -1,5 +1,4 @@
-use Rattle.std.proofs.Common.{rules}
-use Rattle.std.proofs.lemmas.Result.{on_ok_weaker}
+use Rattle.std.proofs.Common.{◌∙◌, rules}
 use Rattle.constriction_text.proofs.Writing.{answered-none, answered-more, answered-written, answered-before}
 use Rattle.constriction_text.proofs.Writing.{answered-all, answered-stopped}
 use Rattle.constriction_text.proofs.program.write_answers.Goals as goal
@@ -34,11 +33,11 @@ returns-in_err-write_many-clause-write g c = λ e.
 
 pub returns-clause-ok : goal.returns-clause-ok
 returns-clause-ok g c =
-    on_ok_weaker c.write_whole.result
-    (λ turn. answered-all _ _ _ c.args.input.now _ _ c.loop-rest.invariant (rw c.as_bytes-2.ensures.value at turn) (search rules))
-    c.write_whole.ensures.ok
+    answered-all _ _ _ c.args.input.now _ _ c.loop-rest.invariant
+    (rw c.as_bytes-2.ensures.value at c.in_ok-write_whole.ensures.ok) (search rules)
 
-pub returns-clause-write : goal.returns-clause-write
-returns-clause-write g c = λ e.
+pub returns-in_err-write_whole-clause-write : goal.returns-in_err-write_whole-clause-write
+returns-in_err-write_whole-clause-write g c = λ e.
+    let part = c.in_err-write_whole.ensures.err in
     answered-stopped _ _ _ c.args.input.now _ _ c.loop-rest.invariant
-    (rw c.as_bytes-2.ensures.value at (rw e at c.write_whole.ensures.err))
+    (part.0, part.1, part.3 ∙ c.as_bytes-2.ensures.value, part.2)
