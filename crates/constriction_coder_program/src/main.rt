@@ -26,13 +26,13 @@ fn answer_lines(rt: &HostRuntime) -> Result<(), RunFault> {
     run_lines(rt.alloc(), &mut rt.reader(), io::writer(rt))
 }
 
-/// The status of a run, of which a fault is said on standard error.
+/// The status of a run, of which an error is said on standard error.
 fn status_of(rt: &HostRuntime, done: Result<(), RunFault>) -> ExitCode {
     match done {
         Ok(()) => ExitCode::SUCCESS,
-        Err(fault) => {
-            let _ = eprintln!(rt; "coder: {fault}");
-            ExitCode::from(fault.status())
+        Err(error) => {
+            let _ = eprintln!(rt; "coder: {error}");
+            ExitCode::from(error.status())
         }
     }
 }

@@ -43,7 +43,7 @@ fn convert<'a>(
     };
     match done {
         Ok(()) => Ok(()),
-        Err(fault) => Err(failure_of(arguments, source, target, fault)),
+        Err(error) => Err(failure_of(arguments, source, target, error)),
     }
 }
 
@@ -76,10 +76,10 @@ fn convert_to_file<'a>(
 ) -> Result<(), Failure<'a>> {
     let (part, mut target) = match part_of(rt, output, arguments.force) {
         Ok(made) => made,
-        Err(fault) => {
+        Err(error) => {
             return Err(Failure {
                 name: output,
-                fault,
+                fault: error,
             });
         }
     };
@@ -126,9 +126,9 @@ fn open_and_run<'a>(rt: &HostRuntime, arguments: &Arguments<'a>) -> Result<(), F
 pub(crate) fn run(rt: &HostRuntime, arguments: &Arguments) -> ExitCode {
     match open_and_run(rt, arguments) {
         Ok(()) => ExitCode::SUCCESS,
-        Err(failure) => {
-            let _ = eprintln!(rt; "coder: {failure}");
-            ExitCode::from(failure.status())
+        Err(error) => {
+            let _ = eprintln!(rt; "coder: {error}");
+            ExitCode::from(error.status())
         }
     }
 }

@@ -12,10 +12,13 @@ use Rattle.constriction_pack.specs.Contents.{IsCoded}
 pub ruleset one_more = (turn-last, length_push)
 
 -- there are as many rows as weights
-pub row_count : (rows : List (Row ℕ)) (weights : List ℕ) → rows ≡ contiguous_rows weights → length rows ≡ length weights
-row_count rows weights is = ap length is ∙ length-rows_from 0 _ weights (length-range_with_len 0 (length weights))
+pub row_count : (rows : List (Row ℕ)) (weights : List ℕ) → rows ≡ contiguous_rows weights
+    → length rows ≡ length weights
+row_count rows weights is =
+    ap length is ∙ length-rows_from 0 _ weights (length-range_with_len 0 (length weights))
 
 -- words are those of one list of so many bytes
-pub coded_once : (weights bytes others words : List ℕ) → IsCoded bytes weights words → IsCoded others weights words
-    → length bytes ≡ length others → bytes ≡ others
-coded_once weights bytes others words p q e = numbers-once 16 weights bytes others words p.accepted p.stack q.stack e
+pub coded_once : (weights bytes others words : List ℕ) → IsCoded bytes weights words
+    → IsCoded others weights words → length bytes ≡ length others → bytes ≡ others
+coded_once weights bytes others words p q e =
+    numbers-once 16 weights bytes others words p.accepted p.stack q.stack e

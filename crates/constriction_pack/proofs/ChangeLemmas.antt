@@ -1,29 +1,31 @@
 -- A file in which one byte is changed: its frames are none any more.
-use Rattle.std.proofs.Common.{◌≡◌, ◌≢◌, ℕ, ◌<◌, List, [], ◌∷◌, ◌++◌, Option, Some, length, get_or, take, drop, refl, ap, sym, ◌∙◌, append_assoc, arith}
-use Rattle.std.specs.Prelude.{bit_xor, codes}
+use Rattle.std.proofs.Common.{◌≡◌, ◌≢◌, ℕ, ◌<◌, List, [], ◌∷◌, ◌++◌, Option, Some, length, get_or}
+use Rattle.std.proofs.Common.{take, drop, refl, ap, sym, ◌∙◌, append_assoc, arith}
+use Rattle.std.specs.Prelude.{bit_xor}
 use Rattle.std.specs.Int.{to_le_bytes, w64}
+use Rattle.std.specs.Int.Bits.{xor_self, xor_zero_l}
 use Rattle.std.proofs.lemmas.List.{append_cancel_left, length-append}
-use Rattle.constriction_coders.specs.Bytes.{bytes_of_words}
-use Rattle.constriction_pack.specs.Frames.{IsFrame, frame_of, hash_after, hash_after_frame, header_of}
-use Rattle.constriction_pack.specs.Packed.{AreFrames, IsPacked, IsPackedAs, ended, next, signature_of}
-use Rattle.constriction_pack.specs.WordFrames.{frame_of_words, hash_after_words}
-use Rattle.constriction_pack.specs.declared.format.Format.{Format}
-use Rattle.constriction_pack.specs.declared.format.Format.TheVariants.{Cpk1, Cpk2}
-use Rattle.constriction_pack.proofs.FileLemmas.{first_words}
+use Rattle.constriction_pack.specs.Frames.{IsFrame, frame_of, hash_after, hash_after_frame}
+use Rattle.constriction_pack.specs.Frames.{header_of}
+use Rattle.constriction_pack.specs.Packed.{AreFrames, IsPacked, ended, next, signature}
 use Rattle.constriction_pack.proofs.FrameLemmas.{count_once, tag_once}
-use Rattle.constriction_pack.proofs.HashLemmas.{byte_once, checksum_once, hash_after-append, hash_of_more, xor_left, xor_right}
-use Rattle.constriction_pack.proofs.ListLemmas.{number_once, same_front}
+use Rattle.constriction_pack.proofs.HashLemmas.{byte_once, checksum_once, hash_after-append}
+use Rattle.constriction_pack.proofs.HashLemmas.{hash_of_more, xor_left, xor_right}
+use Rattle.constriction_pack.proofs.ListLemmas.{same_front}
 
 -- ---- where a byte was changed
 
--- lists that begin with `front` and `other`, and differ in the byte after `before`: it is one of these two, or of what follows them
+-- lists that begin with `front` and `other`, and differ in the byte after `before`: it is one of
+-- these two, or of what follows them
 pub data Place (front other xs ys before after : List ℕ) (x y : ℕ) : Type 0 where
-  within : (rest : List ℕ) → front ≡ before ++ x ∷ rest → other ≡ before ++ y ∷ rest → xs ≡ ys → Place front other xs ys before after x y
-  beyond : (rest : List ℕ) → front ≡ other → before ≡ front ++ rest → xs ≡ rest ++ x ∷ after → ys ≡ rest ++ y ∷ after
+  within : (rest : List ℕ) → front ≡ before ++ x ∷ rest → other ≡ before ++ y ∷ rest → xs ≡ ys
       → Place front other xs ys before after x y
+  beyond : (rest : List ℕ) → front ≡ other → before ≡ front ++ rest → xs ≡ rest ++ x ∷ after
+      → ys ≡ rest ++ y ∷ after → Place front other xs ys before after x y
 
-pub place_of : (front other xs ys before after : List ℕ) (x y : ℕ) → length front ≡ length other → front ++ xs ≡ before ++ x ∷ after
-    → other ++ ys ≡ before ++ y ∷ after → Place front other xs ys before after x y
+pub place_of : (front other xs ys before after : List ℕ) (x y : ℕ) → length front ≡ length other
+    → front ++ xs ≡ before ++ x ∷ after → other ++ ys ≡ before ++ y ∷ after
+    → Place front other xs ys before after x y
 place_of [] [] xs ys before after x y n e f = beyond before refl refl e f
 place_of [] (b ∷ other) xs ys before after x y n e f = absurd (omega (arith, n))
 place_of (a ∷ front) [] xs ys before after x y n e f = absurd (omega (arith, n))
@@ -32,13 +34,18 @@ place_of (a ∷ front) (b ∷ other) xs ys [] after x y n e f =
     let second : b ≡ y = ap (λ zs. get_or zs 0 0) f in
     let rests : front ++ xs ≡ other ++ ys = ap (drop 1) e ∙ sym (ap (drop 1) f) in
     let same = same_front front other xs ys rests (omega (arith, n)) in
-    within front (ap (λ z. z ∷ front) first) (ap (λ z. z ∷ other) second ∙ ap (λ zs. y ∷ zs) (sym same.0)) same.1
+    within front (ap (λ z. z ∷ front) first)
+    (ap (λ z. z ∷ other) second ∙ ap (λ zs. y ∷ zs) (sym same.0)) same.1
 place_of (a ∷ front) (b ∷ other) xs ys (c ∷ before) after x y n e f =
     let first : a ≡ c = ap (λ zs. get_or zs 0 0) e in
     let second : b ≡ c = ap (λ zs. get_or zs 0 0) f in
-    elim (place_of front other xs ys before after x y (omega (arith, n)) (ap (drop 1) e) (ap (drop 1) f)) [
-      | within rest p q r ↦ within rest (ap (λ z. z ∷ front) first ∙ ap (λ zs. c ∷ zs) p) (ap (λ z. z ∷ other) second ∙ ap (λ zs. c ∷ zs) q) r
-      | beyond rest p q r s ↦ beyond rest (ap (λ z. z ∷ front) (first ∙ sym second) ∙ ap (λ zs. b ∷ zs) p)
+    let rests = place_of front other xs ys before after x y (omega (arith, n)) (ap (drop 1) e)
+    (ap (drop 1) f) in
+    elim rests [
+      | within rest p q r ↦ within rest (ap (λ z. z ∷ front) first ∙ ap (λ zs. c ∷ zs) p)
+          (ap (λ z. z ∷ other) second ∙ ap (λ zs. c ∷ zs) q) r
+      | beyond rest p q r s ↦ beyond rest
+          (ap (λ z. z ∷ front) (first ∙ sym second) ∙ ap (λ zs. b ∷ zs) p)
           (ap (λ zs. c ∷ zs) q ∙ ap (λ z. z ∷ (front ++ rest)) (sym first)) r s
     ]
 
@@ -52,52 +59,32 @@ same_byte before r s x y e = ap (λ zs. get_or zs 0 0) (append_cancel_left befor
 abbrev checked : ℕ → ℕ → ℕ → ℕ → List ℕ
 checked t l m h = t ∷ l ∷ m ∷ h ∷ bit_xor (bit_xor (bit_xor t l) m) h ∷ []
 
--- they do not differ in one byte alone
-one_changed : (t l m h s k i j : ℕ) (before rest : List ℕ) (x y : ℕ) → checked t l m h ≡ before ++ x ∷ rest
-    → checked s k i j ≡ before ++ y ∷ rest → x ≡ y
-one_changed t l m h s k i j [] rest x y e f =
-    let tail = ap (drop 1) e ∙ sym (ap (drop 1) f) in
-    let low : l ≡ k = ap (λ zs. get_or zs 0 0) tail in
-    let middle : m ≡ i = ap (λ zs. get_or zs 1 0) tail in
-    let high : h ≡ j = ap (λ zs. get_or zs 2 0) tail in
-    let sum : bit_xor (bit_xor (bit_xor t l) m) h ≡ bit_xor (bit_xor (bit_xor s k) i) j = ap (λ zs. get_or zs 3 0) tail in
-    let same = xor_right t s l (xor_right (bit_xor t l) (bit_xor s l) m (xor_right (bit_xor (bit_xor t l) m) (bit_xor (bit_xor s l) m) h
-    (rw (← low, ← middle, ← high) at sum))) in
-    sym (ap (λ zs. get_or zs 0 0) e) ∙ same ∙ ap (λ zs. get_or zs 0 0) f
-one_changed t l m h s k i j (a ∷ []) rest x y e f =
-    let first : t ≡ s = ap (λ zs. get_or zs 0 0) e ∙ sym (ap (λ zs. get_or zs 0 0) f) in
-    let tail = ap (drop 2) e ∙ sym (ap (drop 2) f) in
-    let middle : m ≡ i = ap (λ zs. get_or zs 0 0) tail in
-    let high : h ≡ j = ap (λ zs. get_or zs 1 0) tail in
-    let sum : bit_xor (bit_xor (bit_xor t l) m) h ≡ bit_xor (bit_xor (bit_xor s k) i) j = ap (λ zs. get_or zs 2 0) tail in
-    let same = xor_left t l k (xor_right (bit_xor t l) (bit_xor t k) m (xor_right (bit_xor (bit_xor t l) m) (bit_xor (bit_xor t k) m) h
-    (rw (← first, ← middle, ← high) at sum))) in
-    sym (ap (λ zs. get_or zs 1 0) e) ∙ same ∙ ap (λ zs. get_or zs 1 0) f
-one_changed t l m h s k i j (a ∷ b ∷ []) rest x y e f =
-    let first : t ≡ s = ap (λ zs. get_or zs 0 0) e ∙ sym (ap (λ zs. get_or zs 0 0) f) in
-    let low : l ≡ k = ap (λ zs. get_or zs 1 0) e ∙ sym (ap (λ zs. get_or zs 1 0) f) in
-    let tail = ap (drop 3) e ∙ sym (ap (drop 3) f) in
-    let high : h ≡ j = ap (λ zs. get_or zs 0 0) tail in
-    let sum : bit_xor (bit_xor (bit_xor t l) m) h ≡ bit_xor (bit_xor (bit_xor s k) i) j = ap (λ zs. get_or zs 1 0) tail in
-    let same = xor_left (bit_xor t l) m i (xor_right (bit_xor (bit_xor t l) m) (bit_xor (bit_xor t l) i) h
-    (rw (← first, ← low, ← high) at sum)) in
-    sym (ap (λ zs. get_or zs 2 0) e) ∙ same ∙ ap (λ zs. get_or zs 2 0) f
-one_changed t l m h s k i j (a ∷ b ∷ c ∷ []) rest x y e f =
-    let first : t ≡ s = ap (λ zs. get_or zs 0 0) e ∙ sym (ap (λ zs. get_or zs 0 0) f) in
-    let low : l ≡ k = ap (λ zs. get_or zs 1 0) e ∙ sym (ap (λ zs. get_or zs 1 0) f) in
-    let middle : m ≡ i = ap (λ zs. get_or zs 2 0) e ∙ sym (ap (λ zs. get_or zs 2 0) f) in
-    let sum : bit_xor (bit_xor (bit_xor t l) m) h ≡ bit_xor (bit_xor (bit_xor s k) i) j =
-    ap (λ zs. get_or zs 0 0) (ap (drop 4) e ∙ sym (ap (drop 4) f)) in
-    let same = xor_left (bit_xor (bit_xor t l) m) h j (rw (← first, ← low, ← middle) at sum) in
-    sym (ap (λ zs. get_or zs 3 0) e) ∙ same ∙ ap (λ zs. get_or zs 3 0) f
-one_changed t l m h s k i j (a ∷ b ∷ c ∷ d ∷ []) rest x y e f =
-    let first : t ≡ s = ap (λ zs. get_or zs 0 0) e ∙ sym (ap (λ zs. get_or zs 0 0) f) in
-    let low : l ≡ k = ap (λ zs. get_or zs 1 0) e ∙ sym (ap (λ zs. get_or zs 1 0) f) in
-    let middle : m ≡ i = ap (λ zs. get_or zs 2 0) e ∙ sym (ap (λ zs. get_or zs 2 0) f) in
-    let high : h ≡ j = ap (λ zs. get_or zs 3 0) e ∙ sym (ap (λ zs. get_or zs 3 0) f) in
-    sym (ap (λ zs. get_or zs 4 0) e) ∙ rw (first, low, middle, high) refl ∙ ap (λ zs. get_or zs 4 0) f
-one_changed t l m h s k i j (a ∷ b ∷ c ∷ d ∷ g ∷ before) rest x y e f =
-    absurd (omega (arith, ap length e, length-append before (x ∷ rest)))
+-- the exclusive or of a number and bytes
+abbrev xors : ℕ → List ℕ → ℕ
+xors n [] = n
+xors n (b ∷ bytes) = xors (bit_xor n b) bytes
+
+xors_back : (bytes : List ℕ) (n m : ℕ) → xors n bytes ≡ xors m bytes → n ≡ m
+xors_back [] n m e = e
+xors_back (b ∷ bytes) n m e = xor_right n m b (xors_back bytes (bit_xor n b) (bit_xor m b) e)
+
+-- it tells one byte, if the others are known
+xors_once : (before rest : List ℕ) (n x y : ℕ)
+    → xors n (before ++ x ∷ rest) ≡ xors n (before ++ y ∷ rest) → x ≡ y
+xors_once [] rest n x y e = xor_left n x y (xors_back rest (bit_xor n x) (bit_xor n y) e)
+xors_once (b ∷ before) rest n x y e = xors_once before rest (bit_xor n b) x y e
+
+xors_of_checked : (t l m h : ℕ) → xors 0 (checked t l m h) ≡ 0
+xors_of_checked t l m h =
+    let sum = bit_xor (bit_xor (bit_xor t l) m) h in
+    ap (λ z. bit_xor (bit_xor (bit_xor (bit_xor z l) m) h) sum) (xor_zero_l t) ∙ xor_self sum
+
+-- such five do not differ in one byte alone
+one_changed : (t l m h s k i j : ℕ) (before rest : List ℕ) (x y : ℕ)
+    → checked t l m h ≡ before ++ x ∷ rest → checked s k i j ≡ before ++ y ∷ rest → x ≡ y
+one_changed t l m h s k i j before rest x y e f =
+    xors_once before rest 0 x y (ap (xors 0) (sym e) ∙ xors_of_checked t l m h
+    ∙ sym (xors_of_checked s k i j) ∙ ap (xors 0) f)
 
 -- ---- a frame
 
@@ -106,60 +93,72 @@ abbrev sum_of : ℕ → ℕ → List ℕ → List ℕ
 sum_of hash t c = to_le_bytes w64 (hash_after hash (header_of t (length c) ++ c))
 
 -- contents that differ in one byte have other checksums
-sums_differ : (hash t : ℕ) (c d before rest : List ℕ) (x y : ℕ) → x < 256 → y < 256 → length c ≡ length d → c ≡ before ++ x ∷ rest
-    → d ≡ before ++ y ∷ rest → sum_of hash t c ≡ sum_of hash t d → x ≡ y
+sums_differ : (hash t : ℕ) (c d before rest : List ℕ) (x y : ℕ) → x < 256 → y < 256
+    → length c ≡ length d → c ≡ before ++ x ∷ rest → d ≡ before ++ y ∷ rest
+    → sum_of hash t c ≡ sum_of hash t d → x ≡ y
 sums_differ hash t c d before rest x y p q n e f sums =
     let head = header_of t (length c) in
     let hashes : hash_after hash (head ++ c) ≡ hash_after hash (header_of t (length d) ++ d) =
-    checksum_once _ _ (hash_of_more hash t (drop 1 head ++ c)) (hash_of_more hash t (drop 1 (header_of t (length d)) ++ d)) sums in
-    let one : hash_after hash (head ++ c) ≡ hash_after (hash_after (hash_after hash head) before) (x ∷ rest) =
-    hash_after-append hash head c ∙ ap (hash_after (hash_after hash head)) e
+    checksum_once _ _ (hash_of_more hash t (drop 1 head ++ c))
+    (hash_of_more hash t (drop 1 (header_of t (length d)) ++ d)) sums in
+    let one = hash_after-append hash head c ∙ ap (hash_after (hash_after hash head)) e
     ∙ hash_after-append (hash_after hash head) before (x ∷ rest) in
-    let other : hash_after hash (header_of t (length d) ++ d) ≡ hash_after (hash_after (hash_after hash head) before) (y ∷ rest) =
-    ap (λ m. hash_after hash (header_of t m ++ d)) (sym n) ∙ hash_after-append hash head d ∙ ap (hash_after (hash_after hash head)) f
+    let other = ap (λ m. hash_after hash (header_of t m ++ d)) (sym n)
+    ∙ hash_after-append hash head d ∙ ap (hash_after (hash_after hash head)) f
     ∙ hash_after-append (hash_after hash head) before (y ∷ rest) in
     byte_once _ x y rest p q (sym one ∙ hashes ∙ other)
 
 -- behind the header: the change is beyond the content and its checksum
-content_changed : (hash t : ℕ) (c d xs ys before after : List ℕ) (x y : ℕ) → x < 256 → y < 256 → y ≢ x → length c ≡ length d
-    → (c ++ sum_of hash t c) ++ xs ≡ before ++ x ∷ after → (d ++ sum_of hash t d) ++ ys ≡ before ++ y ∷ after
+content_changed : (hash t : ℕ) (c d xs ys before after : List ℕ) (x y : ℕ) → x < 256 → y < 256
+    → y ≢ x → length c ≡ length d → (c ++ sum_of hash t c) ++ xs ≡ before ++ x ∷ after
+    → (d ++ sum_of hash t d) ++ ys ≡ before ++ y ∷ after
     → (rest : List ℕ) × (c ≡ d) × (xs ≡ rest ++ x ∷ after) × (ys ≡ rest ++ y ∷ after)
 content_changed hash t c d xs ys before after x y small less differ n e f =
     let p = sum_of hash t c in
     let q = sum_of hash t d in
-    elim (place_of c d (p ++ xs) (q ++ ys) before after x y n (sym (append_assoc c p xs) ∙ e) (sym (append_assoc d q ys) ∙ f)) [
-      | within rest a b u ↦ absurd (differ (sym (sums_differ hash t c d before rest x y small less n a b (ap (take 8) u))))
+    elim (place_of c d (p ++ xs) (q ++ ys) before after x y n (sym (append_assoc c p xs) ∙ e)
+    (sym (append_assoc d q ys) ∙ f)) [
+      | within rest a b u ↦
+          let sums : p ≡ q = ap (take 8) u in
+          absurd (differ (sym (sums_differ hash t c d before rest x y small less n a b sums)))
       | beyond rest same u v w ↦
           let sums : p ≡ q = ap (sum_of hash t) same in
           elim (place_of p q xs ys rest after x y refl v w) [
-            | within last a b z ↦ absurd (differ (sym (same_byte rest last last x y (sym a ∙ sums ∙ b))))
+            | within last a b z ↦
+                absurd (differ (sym (same_byte rest last last x y (sym a ∙ sums ∙ b))))
             | beyond last a b g h ↦ (last, same, g, h)
           ]
     ]
 
 -- a frame in which one byte is changed is none after the same frames: the change is beyond it
-frame_changed : (hash t s : ℕ) (c d xs ys before after : List ℕ) (x y : ℕ) → x < 256 → y < 256 → y ≢ x
-    → frame_of hash t c ++ xs ≡ before ++ x ∷ after → frame_of hash s d ++ ys ≡ before ++ y ∷ after
-    → (rest : List ℕ) × (t ≡ s) × (c ≡ d) × (xs ≡ rest ++ x ∷ after) × (ys ≡ rest ++ y ∷ after)
+frame_changed : (hash t s : ℕ) (c d xs ys before after : List ℕ) (x y : ℕ) → x < 256 → y < 256
+    → y ≢ x → frame_of hash t c ++ xs ≡ before ++ x ∷ after
+    → frame_of hash s d ++ ys ≡ before ++ y ∷ after → (rest : List ℕ) × (t ≡ s) × (c ≡ d)
+    × (xs ≡ rest ++ x ∷ after) × (ys ≡ rest ++ y ∷ after)
 unfolding frame_of hash_after_frame
 frame_changed hash t s c d xs ys before after x y small less differ e f =
-    elim (place_of (header_of t (length c)) (header_of s (length d)) ((c ++ sum_of hash t c) ++ xs) ((d ++ sum_of hash s d) ++ ys) before after x y
-    refl e f) [
-      | within rest a b u ↦ absurd (differ (sym (one_changed _ _ _ _ _ _ _ _ before rest x y a b)))
+    elim (place_of (header_of t (length c)) (header_of s (length d)) ((c ++ sum_of hash t c) ++ xs)
+    ((d ++ sum_of hash s d) ++ ys) before after x y refl e f) [
+      | within rest a b u ↦
+          absurd (differ (sym (one_changed _ _ _ _ _ _ _ _ before rest x y a b)))
       | beyond rest same u v w ↦
           let head = count_once t s (length c) (length d) same in
-          let more = content_changed hash t c d xs ys rest after x y small less differ head.1 v (rw (← head.0) at w) in
+          let more = content_changed hash t c d xs ys rest after x y small less differ head.1 v
+          (rw (← head.0) at w) in
           (more.0, head.0, more.1, more.2, more.3)
     ]
 
 -- ---- frames
 
 -- after a frame, the change is beyond it
-next_changed : {hash : ℕ} {after : Option ℕ} {others other : List ℕ} (block frame xs before behind : List ℕ) (x y : ℕ) → x < 256 → y < 256
-    → y ≢ x → IsFrame hash block frame after → frame ++ xs ≡ before ++ x ∷ behind → AreFrames Cpk2 (Some hash) others other
-    → other ≡ before ++ y ∷ behind
-    → (rest left ys : List ℕ) × AreFrames Cpk2 after left ys × (xs ≡ rest ++ x ∷ behind) × (ys ≡ rest ++ y ∷ behind)
-next_changed {hash = hash} {after = after} block frame xs before behind x y small less differ n e (next {bytes = left} {frames = ys} {after = then} another last m g) f =
+next_changed : {hash : ℕ} {after : Option ℕ} {others other : List ℕ}
+    (block frame xs before behind : List ℕ) (x y : ℕ) → x < 256 → y < 256 → y ≢ x
+    → IsFrame hash block frame after → frame ++ xs ≡ before ++ x ∷ behind
+    → AreFrames (Some hash) others other → other ≡ before ++ y ∷ behind
+    → (rest left ys : List ℕ) × AreFrames after left ys × (xs ≡ rest ++ x ∷ behind)
+    × (ys ≡ rest ++ y ∷ behind)
+next_changed {hash = hash} {after = after} block frame xs before behind x y small less differ n e
+    (next {bytes = left} {frames = ys} {after = then} another last m g) f =
     let one = frame_changed hash _ _ n.content m.content xs ys before behind x y small less differ
     (ap (λ zs. zs ++ xs) (sym n.laid_out) ∙ e) (ap (λ zs. zs ++ ys) (sym m.laid_out) ∙ f) in
     let tag = tag_once n.kind m.kind n.is_last m.is_last one.1 in
@@ -170,46 +169,24 @@ next_changed {hash = hash} {after = after} block frame xs before behind x y smal
     (one.0, left, ys, rw (← same) at g, one.3, one.4)
 
 -- frames of which one byte is changed are none
-frames_changed : {from : Option ℕ} {bytes others all other : List ℕ} (before behind : List ℕ) (x y : ℕ) → x < 256 → y < 256 → y ≢ x
-    → AreFrames Cpk2 from bytes all → all ≡ before ++ x ∷ behind → AreFrames Cpk2 from others other → other ≡ before ++ y ∷ behind → ⊥
-frames_changed before behind x y small less differ ended e g f = omega (arith, ap length e, length-append before (x ∷ behind))
+frames_changed : {from : Option ℕ} {bytes others all other : List ℕ} (before behind : List ℕ)
+    (x y : ℕ) → x < 256 → y < 256 → y ≢ x → AreFrames from bytes all → all ≡ before ++ x ∷ behind
+    → AreFrames from others other → other ≡ before ++ y ∷ behind → ⊥
+frames_changed before behind x y small less differ ended e g f =
+    omega (arith, ap length e, length-append before (x ∷ behind))
 frames_changed before behind x y small less differ (next {frames = xs} block frame n rests) e g f =
     let more = next_changed block frame xs before behind x y small less differ n e g f in
     frames_changed more.0 behind x y small less differ rests more.4 more.3 more.5
 
 -- ---- a file
 
--- the number that frames of words begin with
-words_begin : (hash : ℕ) (words : List ℕ) → frame_of_words hash words
-    ≡ bytes_of_words (length words ∷ []) ++ (bytes_of_words words ++ to_le_bytes w64 (hash_after_words hash words))
-unfolding frame_of_words
-words_begin hash words = refl
-
--- the rest of the signature is no number of words
-no_words : {hash : ℕ} (others all frames : List ℕ) → AreFrames Cpk1 (Some hash) others all → all ≡ 13 ∷ 10 ∷ 26 ∷ 10 ∷ frames → ⊥
-no_words {hash = hash} others all frames framed e =
-    let first = first_words framed in
-    let words = first.0 in
-    let more = bytes_of_words words ++ to_le_bytes w64 (hash_after_words hash words) in
-    let begins : bytes_of_words (length words ∷ []) ++ (more ++ first.1) ≡ bytes_of_words (169478669 ∷ []) ++ frames =
-    sym (append_assoc (bytes_of_words (length words ∷ [])) more first.1) ∙ ap (λ xs. xs ++ first.1) (sym (words_begin hash words))
-    ∙ sym first.3 ∙ e in
-    omega (arith, number_once (length words) 169478669 _ frames begins, first.2)
-
-changed_as : (format : Format) (bytes others before after : List ℕ) (x y : ℕ) → x < 256 → y < 256 → y ≢ x
-    → IsPackedAs Cpk2 bytes (before ++ x ∷ after) → IsPackedAs format others (before ++ y ∷ after) → ⊥
-changed_as Cpk2 bytes others before after x y small less differ p q =
-    elim (place_of (signature_of Cpk2) (signature_of Cpk2) p.frames q.frames before after x y refl (sym p.laid_out) (sym q.laid_out)) [
-      | within rest a b u ↦ differ (sym (same_byte before rest rest x y (sym a ∙ b)))
-      | beyond rest same u v w ↦ frames_changed rest after x y small less differ p.framed v q.framed w
-    ]
-changed_as Cpk1 bytes others before after x y small less differ p q =
-    elim (place_of (codes "cpk2") (codes "cpk1") (13 ∷ 10 ∷ 26 ∷ 10 ∷ p.frames) q.frames before after x y refl (sym p.laid_out) (sym q.laid_out)) [
-      | within rest a b u ↦ no_words others q.frames p.frames q.framed (sym u)
-      | beyond rest same u v w ↦ omega (arith, ap (λ zs. get_or zs 3 0) same)
-    ]
-
 -- a packed file in which one byte is changed is none
-pub file_changed : (bytes others before after : List ℕ) (x y : ℕ) → x < 256 → y < 256 → y ≢ x → IsPackedAs Cpk2 bytes (before ++ x ∷ after)
-    → IsPacked others (before ++ y ∷ after) → ⊥
-file_changed bytes others before after x y small less differ p q = changed_as q.0 bytes others before after x y small less differ p q.1
+pub file_changed : (bytes others before after : List ℕ) (x y : ℕ) → x < 256 → y < 256 → y ≢ x
+    → IsPacked bytes (before ++ x ∷ after) → IsPacked others (before ++ y ∷ after) → ⊥
+file_changed bytes others before after x y small less differ p q =
+    elim (place_of signature signature p.frames q.frames before after x y refl (sym p.laid_out)
+    (sym q.laid_out)) [
+      | within rest a b u ↦ differ (sym (same_byte before rest rest x y (sym a ∙ b)))
+      | beyond rest same u v w ↦
+          frames_changed rest after x y small less differ p.framed v q.framed w
+    ]

@@ -5,4 +5,3 @@ pub mod FrameLemmas
 pub mod HashLemmas
 pub mod ListLemmas
 pub mod WeightLemmas
-pub mod WordFrameLemmas

@@ -28,7 +28,8 @@ use Rattle.constriction_coders.specs.StackMessages.{IsStackOf}
 use Rattle.constriction_adaptive.specs.Bytes.{AreReadFrom}
 use Rattle.constriction_adaptive.specs.Mixer.{MixerState, mixer_after, mixer_begun, mixer_rows}
 use Rattle.constriction_pack.specs.declared.kind.Kind.{Kind}
-use Rattle.constriction_pack.specs.declared.kind.Kind.TheVariants.{Stored, Repeated, Weighted, FewContexts, ManyContexts}
+use Rattle.constriction_pack.specs.declared.kind.Kind.TheVariants.{Stored, Repeated, Weighted}
+use Rattle.constriction_pack.specs.declared.kind.Kind.TheVariants.{FewContexts, ManyContexts}
 
 -- the number of a kind
 abbrev pub number_of : Kind → ℕ
@@ -46,14 +47,16 @@ pub record IsRepeated (bytes content : List ℕ) : Type 0 where
   pub same : bytes ≡ replicate (length bytes) byte
   pub laid_out : content ≡ bytes_of_words (length bytes ∷ []) ++ byte ∷ []
 
--- the words of a stack with these bytes, the first one on top, where the bytes 0, 1, .. have these weights over 2 ^ 16
+-- the words of a stack with these bytes, the first one on top, where the bytes 0, 1, .. have these
+-- weights over 2 ^ 16
 pub record IsCoded (bytes weights words : List ℕ) : Type 0 where
   pub some : 0 < length bytes
   pub few : length weights ≤ 256
   pub accepted : IsAccepted 32 16 weights
   pub stack : IsStackOf (entry_of nat_eq (contiguous_rows weights)) 16 bytes words
 
--- a number in LEB128 of at most three bytes: seven bits each, the lowest first, and 128 more in each byte but the last
+-- a number in LEB128 of at most three bytes: seven bits each, the lowest first, and 128 more in
+-- each byte but the last
 abbrev pub leb128 : ℕ → List ℕ
 leb128 n = if nat_lt n 128 then n ∷ []
     else (if nat_lt n 16384 then (n % 128 + 128) ∷ n / 128 ∷ []
@@ -63,7 +66,8 @@ leb128 n = if nat_lt n 128 then n ∷ []
 abbrev pub bytes_of_weights : List ℕ → List ℕ
 bytes_of_weights weights = flat_map (λ w. leb128 (w - 1)) weights
 
--- bytes that are coded by weights: how many bytes there are, in four bytes; one less than the number of weights; the weights; and the words
+-- bytes that are coded by weights: how many bytes there are, in four bytes; one less than the
+-- number of weights; the weights; and the words
 pub record IsWeighted (bytes content : List ℕ) : Type 0 where
   pub short : length bytes ≤ 2 ^ 23
   pub weights : List ℕ
@@ -71,7 +75,8 @@ pub record IsWeighted (bytes content : List ℕ) : Type 0 where
   pub coded : IsCoded bytes weights words
   pub laid_out : content ≡ bytes_of_words (length bytes ∷ []) ++ ((length weights - 1) ∷ (bytes_of_weights weights ++ bytes_of_words words))
 
--- Bytes whose bits are predicted, from the state `first` on: how many bytes there are, in four bytes; and words from which they are read.
+-- Bytes whose bits are predicted, from the state `first` on: how many bytes there are, in four
+-- bytes; and words from which they are read.
 pub record IsPredicted {State : Type 0} (rows : State → List (Row Bool)) (next : State → Bool → State) (first : State)
     (bytes content : List ℕ) : Type 0 where
   pub some : 0 < length bytes

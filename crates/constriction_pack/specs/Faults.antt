@@ -1,7 +1,11 @@
 -- What stops packing and unpacking.
 use Rattle.std.specs.Prelude.{ℕ}
+use Rattle.constriction_io.specs.declared.reading.ReadError.{ReadError}
+use Rattle.constriction_io.specs.declared.reading.ReadError.TheVariants.{Reader}
 use Rattle.constriction_pack.specs.declared.fault.PackError.{PackError}
-use Rattle.constriction_pack.specs.declared.fault.PackError.TheVariants.{Read, Write, OutOfMemory, NotPacked, Cut, Damaged, TooLong}
+use Rattle.constriction_pack.specs.declared.fault.PackError.TheVariants.{Read, Write, OutOfMemory}
+use Rattle.constriction_pack.specs.declared.fault.PackError.TheVariants.{NotPacked, Cut, Damaged}
+use Rattle.constriction_pack.specs.declared.fault.PackError.TheVariants.{TooLong}
 
 -- the input is refused
 abbrev pub IsRefusal : PackError → Type 0
@@ -22,3 +26,8 @@ status_of NotPacked = 2
 status_of Cut = 2
 status_of Damaged = 2
 status_of TooLong = 2
+
+-- the fault that a read stops by
+abbrev pub of_reading : ReadError → PackError
+of_reading (Reader error) = Read
+of_reading other = OutOfMemory

@@ -1,4 +1,4 @@
--- The frames of a file of the format `cpk2`: contents behind headers and before checksums.
+-- The frames of a packed file: contents behind headers and before checksums.
 use Rattle.std.specs.Prelude.{
   ◌≡◌,
   ℕ,
@@ -37,7 +37,8 @@ first_hash = 14695981039346656037
 abbrev pub tag_of : Kind → Bool → ℕ
 tag_of kind is_last = number_of kind + (if is_last then 128 else 0)
 
--- the header of a content of n bytes: the tag, the number in three bytes, the lowest first, and the exclusive or of these four
+-- the header of a content of n bytes: the tag, the number in three bytes, the lowest first, and the
+-- exclusive or of these four
 abbrev pub header_of : ℕ → ℕ → List ℕ
 header_of tag n = tag ∷ n % 256 ∷ n / 256 % 256 ∷ n / 65536 ∷ bit_xor (bit_xor (bit_xor tag (n % 256)) (n / 256 % 256)) (n / 65536) ∷ []
 
@@ -50,7 +51,8 @@ unfoldable pub frame_of : ℕ → ℕ → List ℕ → List ℕ
 frame_of before tag content =
     header_of tag (length content) ++ (content ++ to_le_bytes w64 (hash_after_frame before tag content))
 
--- the next frame, after frames whose hash is `before`, with the bytes of its block, and the hash after it: none after the last frame
+-- the next frame, after frames whose hash is `before`, with the bytes of its block, and the hash
+-- after it: none after the last frame
 pub record IsFrame (before : ℕ) (block frame : List ℕ) (after : Option ℕ) : Type 0 where
   pub kind : Kind
   pub is_last : Bool

@@ -2,4 +2,3 @@ pub mod Contents
 pub mod Faults
 pub mod Frames
 pub mod Packed
-pub mod WordFrames

@@ -3,13 +3,14 @@
 ghost use Rattle.std.specs.Prelude.{◌≡◌};
 ghost use Rattle.constriction_pack.specs.Faults.{status_of};
 
+use constriction_io::{ReadError, WriteError};
 use std::alloc::{AllocError, AllocFailed};
 use thiserror::Error;
 
 /// What stops packing and unpacking. What was written before stays.
 #[derive(Debug, Clone, Copy, PartialEq, Eq, Drop, Error)]
 pub enum PackError {
-    /// The reader answered an error, which may be an interruption.
+    /// The reader answered an error.
     #[error("The input could not be read.")]
     Read,
     /// The writer answered an error, or took no byte.
@@ -62,5 +63,28 @@ impl<T: Drop> From<AllocFailed<T>> for PackError {
 
     fn from(_error: AllocFailed<T>) -> Self {
         PackError::OutOfMemory
+    }
+}
+
+impl From<ReadError> for PackError {
+    ghost use Rattle.constriction_pack.specs.Faults.{of_reading};
+
+    ghost from_gives = { λ error fault. fault ≡ of_reading error };
+
+    fn from(error: ReadError) -> Self {
+        match error {
+            ReadError::Reader(_) => PackError::Read,
+            ReadError::OutOfMemory => PackError::OutOfMemory,
+        }
+    }
+}
+
+impl From<WriteError> for PackError {
+    ghost use Rattle.constriction_pack.specs.declared.fault.PackError.TheVariants.{Write};
+
+    ghost from_gives = { λ _ fault. fault ≡ Write };
+
+    fn from(_error: WriteError) -> Self {
+        PackError::Write
     }
 }

@@ -22,14 +22,17 @@ ghost use Rattle.std.specs.Prelude.{
 };
 ghost use Rattle.std.specs.Io.KnownBytes.{Appends, Consumes};
 ghost use Rattle.constriction_pack.specs.Faults.{IsRefusal};
-ghost use Rattle.constriction_pack.specs.Frames.{frame_of, hash_after, hash_after_frame, header_of, tag_of};
+ghost use Rattle.constriction_pack.specs.Frames.{frame_of, hash_after, hash_after_frame, header_of};
+ghost use Rattle.constriction_pack.specs.Frames.{tag_of};
 
 use crate::block::MOST_BYTES;
 use crate::fault::PackError;
 use crate::kind::Kind;
-use crate::reading::read_up_to;
-use crate::writing::write_whole;
+use constriction_io::{read_up_to, write_whole};
 use std::io::{Read, Write};
+
+/// What a packed file begins with.
+pub(crate) const SIGNATURE: &[u8] = b"cpk2\r\n\x1a\n";
 
 /// The hash of no bytes.
 pub(crate) const FIRST_HASH: u64 = 0xcbf2_9ce4_8422_2325;
@@ -40,7 +43,7 @@ const HEADER: usize = 5;
 const CHECKSUM: usize = 8;
 
 /// The 64-bit FNV-1a hash of these bytes after others.
-pub(crate) fn hash_of(before: u64, bytes: &[u8]) -> u64
+fn hash_of(before: u64, bytes: &[u8]) -> u64
     ensures { result ≡ hash_after before bytes.now }
 {
     let mut hash = before;
@@ -62,10 +65,11 @@ fn tag(kind: Kind, is_last: bool) -> u8
 }
 
 /// The header of a content of so many bytes.
-fn header(tag: u8, count: usize) -> [u8; 5]
+fn header(kind: Kind, is_last: bool, count: usize) -> [u8; 5]
     requires { count ≤ 2 ^ 23 }
-    ensures { result ≡ header_of tag count }
+    ensures { result ≡ header_of (tag_of kind is_last) count }
 {
+    let tag = tag(kind, is_last);
     let low = (count % 256) as u8;
     let middle = (count / 256 % 256) as u8;
     let high = (count / 65_536) as u8;
@@ -77,9 +81,9 @@ fn parts_of(header: &[u8]) -> Result<(Kind, bool, usize), PackError>
     requires { length header.now ≡ 5 }
     ensures short { IfOk result (λ parts. parts.2 ≤ 2 ^ 23) }
     ensures ok { IfOk result (λ parts. header.now ≡ header_of (tag_of parts.0 parts.1) parts.2) }
-    ensures accepted { (kind : Kind) (is_last : Bool) (count : ℕ) → count ≤ 2 ^ 23 → header.now ≡ header_of (tag_of kind is_last) count
-        → IsOk result }
-    ensures faults { IfErr result (λ fault. fault ≢ PackError.TooLong) }
+    ensures accepted { (kind : Kind) (is_last : Bool) (count : ℕ) → count ≤ 2 ^ 23
+        → header.now ≡ header_of (tag_of kind is_last) count → IsOk result }
+    ensures errors { IfErr result (λ error. error ≢ PackError.TooLong) }
 {
     let (tag, low, middle, high) = (header[0], header[1], header[2], header[3]);
     let count = low as usize + 256 * middle as usize + 65_536 * high as usize;
@@ -92,7 +96,8 @@ fn parts_of(header: &[u8]) -> Result<(Kind, bool, usize), PackError>
     }
 }
 
-/// Writes the frame of this content, after frames with this hash, and answers the hash after it, or `None` after the last one.
+/// Writes the frame of this content, after frames with this hash, and answers the hash after it, or
+/// `None` after the last one.
 pub(crate) fn write_frame<W: Write>(
     writer: &mut W,
     before: u64,
@@ -101,14 +106,18 @@ pub(crate) fn write_frame<W: Write>(
     content: &[u8],
 ) -> Result<Option<u64>, PackError>
     requires { length content.now ≤ 2 ^ 23 }
-    ensures ok { IfOk result (λ _. Appends (W.contents writer.old) (W.contents writer.new) (frame_of before (tag_of kind is_last) content.now)) }
+    ensures ok { IfOk result (λ _. Appends (W.contents writer.old) (W.contents writer.new)
+        (frame_of before (tag_of kind is_last) content.now)) }
     ensures leads { IfOk result (λ after. after
-        ≡ (if is_last then None else Some (hash_after_frame before (tag_of kind is_last) content.now))) }
-    ensures part { OnErr result ((written lost : List ℕ) × Appends (W.contents writer.old) (W.contents writer.new) written
-        × (written ++ lost ≡ frame_of before (tag_of kind is_last) content.now) × (0 < length lost)) }
-    ensures faults { IfErr result (λ fault. ¬ (IsRefusal fault)) }
+        ≡ (if is_last then None
+        else Some (hash_after_frame before (tag_of kind is_last) content.now))) }
+    ensures part { OnErr result ((written lost : List ℕ)
+        × Appends (W.contents writer.old) (W.contents writer.new) written
+        × (written ++ lost ≡ frame_of before (tag_of kind is_last) content.now)
+        × (0 < length lost)) }
+    ensures errors { IfErr result (λ error. ¬ (IsRefusal error)) }
 {
-    let header = header(tag(kind, is_last), content.len());
+    let header = header(kind, is_last, content.len());
     let after = hash_of(hash_of(before, &header), content);
     write_whole(writer, &header)?;
     write_whole(writer, content)?;
@@ -119,19 +128,22 @@ pub(crate) fn write_frame<W: Write>(
     Ok(Some(after))
 }
 
-/// Reads a frame, after frames with this hash. It answers the kind, whether the frame is the last one, and the hash after it. Of the
-/// content no more is read than a block has at most.
+/// Reads a frame, after frames with this hash. It answers the kind, whether the frame is the last
+/// one, and the hash after it. Of the content no more is read than a block has at most.
 pub(crate) fn read_frame<R: Read>(
     reader: &mut R,
     before: u64,
     frame: &mut Vec<u8>,
 ) -> Result<(Kind, bool, u64), PackError>
     ensures ok { IfOk result (λ head. (content : List ℕ) × (length content ≤ 2 ^ 23)
-        × (frame.new.items ≡ frame_of before (tag_of head.0 head.1) content) × (head.2 ≡ hash_after_frame before (tag_of head.0 head.1) content)
+        × (frame.new.items ≡ frame_of before (tag_of head.0 head.1) content)
+        × (head.2 ≡ hash_after_frame before (tag_of head.0 head.1) content)
         × Consumes (R.remaining reader.old) (R.remaining reader.new) frame.new.items) }
-    ensures accepted { (kind : Kind) (is_last : Bool) (content rest : List ℕ) → length content ≤ 2 ^ 23
-        → R.remaining reader.old ≡ Some (frame_of before (tag_of kind is_last) content ++ rest) → IfErr result (λ fault. ¬ (IsRefusal fault)) }
-    ensures faults { IfErr result (λ fault. fault ≢ PackError.TooLong) }
+    ensures accepted { (kind : Kind) (is_last : Bool) (content rest : List ℕ)
+        → length content ≤ 2 ^ 23
+        → R.remaining reader.old ≡ Some (frame_of before (tag_of kind is_last) content ++ rest)
+        → IfErr result (λ error. ¬ (IsRefusal error)) }
+    ensures errors { IfErr result (λ error. error ≢ PackError.TooLong) }
 {
     frame.clear();
     read_up_to(reader, HEADER, frame)?;
@@ -155,7 +167,8 @@ pub(crate) fn read_frame<R: Read>(
 /// The content of a frame.
 pub(crate) fn content_of(frame: &[u8]) -> &[u8]
     requires { 13 ≤ length frame.now }
-    ensures { (before tag : ℕ) (content : List ℕ) → frame.now ≡ frame_of before tag content → result.now ≡ content }
+    ensures { (before tag : ℕ) (content : List ℕ) → frame.now ≡ frame_of before tag content
+        → result.now ≡ content }
 {
     &frame[HEADER..frame.len() - CHECKSUM]
 }

@@ -10,14 +10,16 @@ pub enum Kind {
     Stored,
     /// 1: how many bytes the block has, in four bytes, and the byte that each of them is.
     Repeated,
-    /// 2: how many bytes the block has, in four bytes; one less than the number of weights, in one; the weights of the bytes 0, 1, .. up to
-    /// the greatest one, each less one in LEB128; and the words of the stack coder at `PRECISION` 16, four bytes each. The weights are not
-    /// 0 and add up to 65,536. The coder held nothing before, and has the block's first byte on top.
+    /// 2: how many bytes the block has, in four bytes; one less than the number of weights, in one;
+    /// the weights of the bytes 0, 1, .. up to the greatest one, each less one in LEB128; and the
+    /// words of the stack coder at `PRECISION` 16, four bytes each. The weights are not 0 and add
+    /// up to 65,536. The coder held nothing before, and has the block's first byte on top.
     Weighted,
-    /// 3: how many bytes the block has, in four bytes, and the words of a range coder, four bytes each. They have the bits of the bytes, the
-    /// highest of each first, as a `Mixer` predicts them that learned nothing before: `Mixer::<2>::new(alloc, [2, 0], 131_072, 1_048_576, 5)`.
+    /// 3: how many bytes the block has, in four bytes, and the words of a range coder, four bytes
+    /// each. They have the bits of the bytes, the highest of each first, as a `Mixer` of two
+    /// contexts predicts them that learned nothing before. `docs/PACKED.md` has its parameters.
     FewContexts,
-    /// 4: the same by `Mixer::<6>::new(alloc, [1, 2, 3, 4, 6, 0], 1_048_576, 4_194_304, 8)`.
+    /// 4: the same by a `Mixer` of six contexts.
     ManyContexts,
 }
 

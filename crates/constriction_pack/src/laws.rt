@@ -1,13 +1,13 @@
 //! What comes back, each law the contract of a function.
 
-ghost use Rattle.std.specs.Prelude.{◌≡◌, ◌≢◌, ◌<◌, ◌≤◌, ◌^◌, ℕ, List, [], ◌∷◌, ◌++◌, IfErr, IfOk, length};
+ghost use Rattle.std.specs.Prelude.{◌≡◌, ◌≢◌, ◌<◌, ◌≤◌, ◌^◌, ℕ, List, [], ◌∷◌, ◌++◌, IfErr, IfOk};
+ghost use Rattle.std.specs.Prelude.{length};
 ghost use Rattle.constriction_pack.specs.Contents.{IsContent};
 ghost use Rattle.constriction_pack.specs.Faults.{IsRefusal};
-ghost use Rattle.constriction_pack.specs.Packed.{IsPacked, IsPackedAs};
+ghost use Rattle.constriction_pack.specs.Packed.{IsPacked};
 
 use crate::block::{pack_block, unpack_block};
 use crate::fault::PackError;
-use crate::format::Format;
 use crate::kind::Kind;
 use crate::level::Level;
 use crate::packing::pack;
@@ -16,24 +16,26 @@ use std::alloc::Global;
 
 /// A content of one kind is that of one block.
 pub fn block_once()
-    ensures { (kind : Kind) (bytes others content : List ℕ) → IsContent kind bytes content → IsContent kind others content
+    ensures { (kind : Kind) (bytes others content : List ℕ) → IsContent kind bytes content
+        → IsContent kind others content → bytes ≡ others }
+{}
+
+/// A packed file has one content.
+pub fn packed_once()
+    ensures { (bytes others packed : List ℕ) → IsPacked bytes packed → IsPacked others packed
         → bytes ≡ others }
 {}
 
-/// A packed file has one content, whatever its format.
-pub fn packed_once()
-    ensures { (bytes others packed : List ℕ) → IsPacked bytes packed → IsPacked others packed → bytes ≡ others }
-{}
-
-/// No packed file is the beginning of another, whatever their formats.
+/// No packed file is the beginning of another.
 pub fn nothing_follows()
-    ensures { (bytes others packed more : List ℕ) → IsPacked bytes packed → IsPacked others (packed ++ more) → more ≡ [] }
+    ensures { (bytes others packed more : List ℕ) → IsPacked bytes packed
+        → IsPacked others (packed ++ more) → more ≡ [] }
 {}
 
-/// A file that [`pack`] wrote is no packed file any more once one of its bytes is changed.
+/// A packed file is none any more once one of its bytes is changed.
 pub fn changed_byte_is_refused()
     ensures { (bytes others before after : List ℕ) (x y : ℕ) → x < 256 → y < 256 → y ≢ x
-        → IsPackedAs Format.Cpk2 bytes (before ++ x ∷ after) → ¬ (IsPacked others (before ++ y ∷ after)) }
+        → IsPacked bytes (before ++ x ∷ after) → ¬ (IsPacked others (before ++ y ∷ after)) }
 {}
 
 /// The bytes of a block come back, unless memory is refused.
@@ -41,7 +43,7 @@ pub fn changed_byte_is_refused()
 pub fn block_comes_back(alloc: Global, level: Level, bytes: &[u8]) -> Result<Vec<u8>, PackError>
     requires { length bytes.now ≤ 2 ^ 23 }
     ensures back { IfOk result (λ again. again.items ≡ bytes.now) }
-    ensures memory { IfErr result (λ fault. fault ≡ PackError.OutOfMemory) }
+    ensures memory { IfErr result (λ error. error ≡ PackError.OutOfMemory) }
 {
     match pack_block(alloc, level, bytes)? {
         Some((kind, content)) => {
@@ -55,7 +57,7 @@ pub fn block_comes_back(alloc: Global, level: Level, bytes: &[u8]) -> Result<Vec
 /// The bytes of a file come back, and no error is a refusal.
 pub fn file_comes_back(alloc: Global, level: Level, bytes: &[u8]) -> Result<Vec<u8>, PackError>
     ensures back { IfOk result (λ again. again.items ≡ bytes.now) }
-    ensures faults { IfErr result (λ fault. ¬ (IsRefusal fault)) }
+    ensures errors { IfErr result (λ error. ¬ (IsRefusal error)) }
 {
     let mut packed = Vec::new(alloc);
     let mut reader = bytes;

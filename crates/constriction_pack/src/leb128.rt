@@ -1,6 +1,7 @@
 //! Weights as bytes: each less one in LEB128.
 
-ghost use Rattle.std.specs.Prelude.{◌≡◌, ◌≢◌, ◌<◌, ◌≤◌, ◌-◌, ◌^◌, ◌++◌, ℕ, List, All, IfErr, IfOk, IfSome, IsSome, OnOk, drop, length};
+ghost use Rattle.std.specs.Prelude.{◌≡◌, ◌≢◌, ◌<◌, ◌≤◌, ◌-◌, ◌^◌, ◌++◌, ℕ, List, All, IfErr, IfOk};
+ghost use Rattle.std.specs.Prelude.{IfSome, IsSome, OnOk, drop, length};
 ghost use Rattle.constriction_pack.specs.Contents.{bytes_of_weights, leb128};
 
 use crate::fault::PackError;
@@ -41,8 +42,10 @@ pub(crate) fn push_weights(content: &mut Vec<u8>, weights: &[u32]) -> Result<(),
 fn weight_of(bytes: &[u8]) -> Option<(u32, usize)>
     ensures positive { IfSome result (λ found. 0 < found.0) }
     ensures within { IfSome result (λ found. found.1 ≤ length bytes.now) }
-    ensures some { IfSome result (λ found. bytes.now ≡ leb128 (found.0 - 1) ++ drop found.1 bytes.now) }
-    ensures none { (number : ℕ) (rest : List ℕ) → bytes.now ≡ leb128 number ++ rest → IsSome result }
+    ensures some { IfSome result (λ found. bytes.now
+        ≡ leb128 (found.0 - 1) ++ drop found.1 bytes.now) }
+    ensures none { (number : ℕ) (rest : List ℕ) → bytes.now ≡ leb128 number ++ rest
+        → IsSome result }
 {
     let low = *bytes.first()? as u32;
     if low < 128 {
@@ -73,10 +76,13 @@ pub(crate) fn weights_in(
     ensures count { IfOk result (λ found. length found.0.items ≡ count) }
     ensures positive { IfOk result (λ found. All (λ w. 0 < w) found.0.items) }
     ensures within { IfOk result (λ found. found.1 ≤ length bytes.now) }
-    ensures ok { IfOk result (λ found. bytes.now ≡ bytes_of_weights found.0.items ++ drop found.1 bytes.now) }
-    ensures accepted { (weights rest : List ℕ) → length weights ≡ count → bytes.now ≡ bytes_of_weights weights ++ rest
-        → IfErr result (λ fault. fault ≡ PackError.OutOfMemory) }
-    ensures faults { IfErr result (λ fault. fault ≢ PackError.OutOfMemory → fault ≡ PackError.Damaged) }
+    ensures ok { IfOk result (λ found. bytes.now
+        ≡ bytes_of_weights found.0.items ++ drop found.1 bytes.now) }
+    ensures accepted { (weights rest : List ℕ) → length weights ≡ count
+        → bytes.now ≡ bytes_of_weights weights ++ rest
+        → IfErr result (λ error. error ≡ PackError.OutOfMemory) }
+    ensures errors { IfErr result (λ error. error ≢ PackError.OutOfMemory
+        → error ≡ PackError.Damaged) }
 {
     let mut weights = Vec::new(alloc);
     let mut at = 0;

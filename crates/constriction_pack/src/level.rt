@@ -7,9 +7,11 @@ ghost use Rattle.std.specs.Prelude.{◌^◌, ◌≤◌};
 pub enum Level {
     /// Blocks of 2^20 bytes. Each byte has one weight in a block.
     Fast,
-    /// Blocks of 2^23 bytes, whose bits may be predicted by two contexts. Packing and unpacking take 5 MiB for these.
+    /// Blocks of 2^23 bytes, whose bits may be predicted by two contexts. Packing and unpacking
+    /// take 5 MiB for these.
     Default,
-    /// Blocks of 2^23 bytes, whose bits may be predicted by two contexts or by six. Packing and unpacking take 36 MiB for these.
+    /// Blocks of 2^23 bytes, whose bits may be predicted by two contexts or by six. Packing and
+    /// unpacking take 36 MiB for these.
     Best,
 }
 

@@ -1,28 +1,25 @@
 //! Whole files packed by the coders, and unpacked again.
 //!
-//! [`pack`] and [`unpack`] go from any reader to any writer, block by block. [`pack_block`] and [`unpack_block`] turn the bytes of one
-//! block into a shorter content and back. [`laws`] says what comes back.
+//! [`pack`] and [`unpack`] go from any reader to any writer, block by block. [`pack_block`] and
+//! [`unpack_block`] turn the bytes of one block into a shorter content and back. [`laws`] says what
+//! comes back.
 //!
-//! A packed file is a signature and a frame for each block. The last frame is marked, and nothing follows it. All numbers have the lowest
-//! byte first.
+//! A packed file is a signature and a frame for each block. The last frame is marked, and nothing
+//! follows it. All numbers have the lowest byte first.
 //!
-//! 1. The signature is `cpk2` and the bytes 13, 10, 26, 10, so that a file is noticed whose ends of lines were changed.
-//! 2. A frame is a header, a content and a checksum. The header has five bytes: a tag, which is the number of the content's [`Kind`], and
-//!    128 more in the last frame; the number of the content's bytes, at most 2^23, in three bytes; and the exclusive or of these four. The
-//!    checksum has eight: the 64-bit FNV-1a hash of the headers and contents of this frame and of all before it.
-//! 3. [`Kind`] says what a content is. [`pack`] takes the shortest of the kinds that a [`Level`] tries. [`unpack`] takes any, and blocks of
-//!    any length up to 2^23.
-//!
-//! [`unpack`] also reads files of the format `cpk1`, which are packed no more. Such a file is these four letters, a frame for each block,
-//! and a frame of no words. A frame is the number of its words, the words, and a checksum as above, of numbers and words. The words of a
-//! block are the number of its bytes, at most 2^20; the number of its weights; the weights; and the words of the stack coder, as in
-//! [`Kind::Weighted`]. A number or a word has four bytes.
+//! 1. The signature is `cpk2` and the bytes 13, 10, 26, 10, so that a file is noticed whose ends of
+//!    lines were changed.
+//! 2. A frame is a header, a content and a checksum. The header has five bytes: a tag, which is the
+//!    number of the content's [`Kind`], and 128 more in the last frame; the number of the content's
+//!    bytes, at most 2^23, in three bytes; and the exclusive or of these four. The checksum has
+//!    eight: the 64-bit FNV-1a hash of the headers and contents of this frame and of all before it.
+//! 3. [`Kind`] says what a content is. [`pack`] takes the shortest of the kinds that a [`Level`]
+//!    tries. [`unpack`] takes any, and blocks of any length up to 2^23.
 #![tactic(auto)]
 
 mod block;
 mod coding;
 mod fault;
-mod format;
 mod frame;
 mod kind;
 pub mod laws;
@@ -33,8 +30,6 @@ mod predicted;
 mod reading;
 mod unpacking;
 mod weighing;
-mod word_block;
-mod writing;
 
 pub use crate::block::{pack_block, unpack_block};
 pub use crate::fault::PackError;

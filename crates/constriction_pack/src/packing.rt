@@ -25,20 +25,19 @@ ghost use Rattle.std.specs.Prelude.{
 ghost use Rattle.std.specs.Io.KnownBytes.{Appends, Consumes, IsAtEnd};
 ghost use Rattle.constriction_pack.specs.Faults.{IsRefusal};
 ghost use Rattle.constriction_pack.specs.Frames.{IsFrame};
-ghost use Rattle.constriction_pack.specs.Packed.{AreFrames, IsPacked, IsPackedAs};
+ghost use Rattle.constriction_pack.specs.Packed.{AreFrames, IsPacked};
 
 use crate::block::pack_block;
 use crate::fault::PackError;
-use crate::format::{Format, SIGNATURE};
-use crate::frame::{FIRST_HASH, write_frame};
+use crate::frame::{FIRST_HASH, SIGNATURE, write_frame};
 use crate::kind::Kind;
 use crate::level::Level;
-use crate::reading::read_up_to;
-use crate::writing::write_whole;
+use constriction_io::{read_up_to, write_whole};
 use std::alloc::Global;
 use std::io::{Read, Write};
 
-/// Writes the frame of a block, after frames with this hash, and answers the hash after it, or `None` after the last one.
+/// Writes the frame of a block, after frames with this hash, and answers the hash after it, or
+/// `None` after the last one.
 fn write_block<W: Write>(
     alloc: Global,
     level: Level,
@@ -49,11 +48,13 @@ fn write_block<W: Write>(
 ) -> Result<Option<u64>, PackError>
     requires { length block.now ≤ 2 ^ 23 }
     ensures ok { IfOk result (λ after. (frame : List ℕ) × IsFrame before block.now frame after
-        × Appends (W.contents writer.old) (W.contents writer.new) frame × (length frame ≤ length block.now + 13)) }
+        × Appends (W.contents writer.old) (W.contents writer.new) frame
+        × (length frame ≤ length block.now + 13)) }
     ensures last { IfOk result (λ after. IsTrue is_last ↔ (after ≡ None)) }
-    ensures part { OnErr result ((written : List ℕ) × Appends (W.contents writer.old) (W.contents writer.new) written
-        × ((bytes : List ℕ) → ¬ (AreFrames Format.Cpk2 (Some before) bytes written))) }
-    ensures faults { IfErr result (λ fault. ¬ (IsRefusal fault)) }
+    ensures part { OnErr result ((written : List ℕ)
+        × Appends (W.contents writer.old) (W.contents writer.new) written
+        × ((bytes : List ℕ) → ¬ (AreFrames (Some before) bytes written))) }
+    ensures errors { IfErr result (λ error. ¬ (IsRefusal error)) }
 {
     match pack_block(alloc, level, block)? {
         Some((kind, content)) => {
@@ -67,8 +68,9 @@ fn write_block<W: Write>(
     }
 }
 
-/// Packs the next block, after frames with this hash, and answers the hash after it, or `None` if it wrote the last frame. The buffer has
-/// what was read and is not packed yet, which is a byte at most.
+/// Packs the next block, after frames with this hash, and answers the hash after it, or `None` if
+/// it wrote the last frame. The buffer has what was read and is not packed yet, which is a byte at
+/// most.
 fn pack_next<R: Read, W: Write>(
     alloc: Global,
     level: Level,
@@ -78,15 +80,18 @@ fn pack_next<R: Read, W: Write>(
     before: u64,
 ) -> Result<Option<u64>, PackError>
     requires { length buffer.old.items ≤ 1 }
-    ensures ok { IfOk result (λ after. (read block frame : List ℕ) × Consumes (R.remaining reader.old) (R.remaining reader.new) read
+    ensures ok { IfOk result (λ after. (read block frame : List ℕ)
+        × Consumes (R.remaining reader.old) (R.remaining reader.new) read
         × (buffer.old.items ++ read ≡ block ++ buffer.new.items) × IsFrame before block frame after
-        × Appends (W.contents writer.old) (W.contents writer.new) frame × (length frame ≤ length block + 13)
-        × (IsSome after → 2 ^ 20 ≤ length block)) }
+        × Appends (W.contents writer.old) (W.contents writer.new) frame
+        × (length frame ≤ length block + 13) × (IsSome after → 2 ^ 20 ≤ length block)) }
     ensures kept { IfOk result (λ after. length buffer.new.items ≤ 1) }
-    ensures end { IfOk result (λ after. after ≡ None → (buffer.new.items ≡ []) × IsAtEnd (R.remaining reader.new)) }
-    ensures part { OnErr result ((written : List ℕ) × Appends (W.contents writer.old) (W.contents writer.new) written
-        × ((bytes : List ℕ) → ¬ (AreFrames Format.Cpk2 (Some before) bytes written))) }
-    ensures faults { IfErr result (λ fault. ¬ (IsRefusal fault)) }
+    ensures end { IfOk result (λ after. after ≡ None → (buffer.new.items ≡ [])
+        × IsAtEnd (R.remaining reader.new)) }
+    ensures part { OnErr result ((written : List ℕ)
+        × Appends (W.contents writer.old) (W.contents writer.new) written
+        × ((bytes : List ℕ) → ¬ (AreFrames (Some before) bytes written))) }
+    ensures errors { IfErr result (λ error. ¬ (IsRefusal error)) }
 {
     let most = level.block_bytes();
     read_up_to(reader, most + 1, buffer)?;
@@ -105,9 +110,10 @@ fn pack_next<R: Read, W: Write>(
 
 /// Packs what a reader has, to its end, block by block.
 ///
-/// The writer is not flushed: give one that holds nothing back. Memory is asked for one block at a time, whatever there is to read. No
-/// fault is a refusal: the input was not read (which also stands for more than `2^64 - 1` blocks), the output was not written, or memory
-/// was refused. What was written before stands, and is no packed file.
+/// The writer is not flushed: give one that holds nothing back. Memory is asked for one block at a
+/// time, whatever there is to read. No fault is a refusal: the input was not read (which also
+/// stands for more than `2^64 - 1` blocks), the output was not written, or memory was refused. What
+/// was written before stands, and is no packed file.
 #[tactic(auto, using(crate::proofs::FileLemmas::under_way_begun, crate::proofs::FileLemmas::under_way_more))]
 pub fn pack<R: Read, W: Write>(
     alloc: Global,
@@ -115,17 +121,20 @@ pub fn pack<R: Read, W: Write>(
     reader: &mut R,
     writer: &mut W,
 ) -> Result<(), PackError>
-    ensures ok { OnOk result ((bytes packed : List ℕ) × Consumes (R.remaining reader.old) (R.remaining reader.new) bytes
-        × IsAtEnd (R.remaining reader.new) × Appends (W.contents writer.old) (W.contents writer.new) packed
-        × IsPackedAs Format.Cpk2 bytes packed × (length packed ≤ length bytes + 24 + 16 * (length bytes / 2 ^ 20))) }
-    ensures part { OnErr result ((written : List ℕ) × Appends (W.contents writer.old) (W.contents writer.new) written
+    ensures ok { OnOk result ((bytes packed : List ℕ)
+        × Consumes (R.remaining reader.old) (R.remaining reader.new) bytes
+        × IsAtEnd (R.remaining reader.new)
+        × Appends (W.contents writer.old) (W.contents writer.new) packed × IsPacked bytes packed
+        × (length packed ≤ length bytes + 24 + 16 * (length bytes / 2 ^ 20))) }
+    ensures part { OnErr result ((written : List ℕ)
+        × Appends (W.contents writer.old) (W.contents writer.new) written
         × ((bytes : List ℕ) → ¬ (IsPacked bytes written))) }
-    ensures faults { IfErr result (λ fault. ¬ (IsRefusal fault)) }
+    ensures errors { IfErr result (λ error. ¬ (IsRefusal error)) }
 {
     write_whole(writer, SIGNATURE)?;
     let mut buffer = Vec::new(alloc);
     let mut before = FIRST_HASH;
-    'blocks: for _ in 0..u64::MAX {
+    for _ in 0..u64::MAX {
         match pack_next(alloc, level, reader, writer, &mut buffer, before)? {
             Some(after) => before = after,
             None => return Ok(()),

@@ -48,8 +48,8 @@ where
     P: Predictor<16, Symbol = bool, Model = Bit>,
     ensures ok { IfOk result (λ bytes. IsPredicted P.rows P.next (P.state predictor.old) bytes.items content.now) }
     ensures accepted { (bytes : List ℕ) → IsPredicted P.rows P.next (P.state predictor.old) bytes content.now
-        → IfErr result (λ fault. fault ≡ PackError.OutOfMemory) }
-    ensures faults { IfErr result (λ fault. fault ≢ PackError.OutOfMemory → fault ≡ PackError.Damaged) }
+        → IfErr result (λ error. error ≡ PackError.OutOfMemory) }
+    ensures errors { IfErr result (λ error. error ≢ PackError.OutOfMemory → error ≡ PackError.Damaged) }
 {
     let [first, second, third, fourth, coded @ ..] = content else {
         return Err(PackError::Damaged);
@@ -171,8 +171,8 @@ pub(crate) fn by_contexts(
 pub(crate) fn of_few_contexts(alloc: Global, content: &[u8]) -> Result<Vec<u8>, PackError>
     ensures ok { IfOk result (λ bytes. IsContent Kind.FewContexts bytes.items content.now) }
     ensures accepted { (bytes : List ℕ) → IsContent Kind.FewContexts bytes content.now
-        → IfErr result (λ fault. fault ≡ PackError.OutOfMemory) }
-    ensures faults { IfErr result (λ fault. fault ≢ PackError.OutOfMemory → fault ≡ PackError.Damaged) }
+        → IfErr result (λ error. error ≡ PackError.OutOfMemory) }
+    ensures errors { IfErr result (λ error. error ≢ PackError.OutOfMemory → error ≡ PackError.Damaged) }
 {
     let mut mixer = two_contexts(alloc)?;
     of_predicted(alloc, &mut mixer, content)
@@ -182,8 +182,8 @@ pub(crate) fn of_few_contexts(alloc: Global, content: &[u8]) -> Result<Vec<u8>, 
 pub(crate) fn of_many_contexts(alloc: Global, content: &[u8]) -> Result<Vec<u8>, PackError>
     ensures ok { IfOk result (λ bytes. IsContent Kind.ManyContexts bytes.items content.now) }
     ensures accepted { (bytes : List ℕ) → IsContent Kind.ManyContexts bytes content.now
-        → IfErr result (λ fault. fault ≡ PackError.OutOfMemory) }
-    ensures faults { IfErr result (λ fault. fault ≢ PackError.OutOfMemory → fault ≡ PackError.Damaged) }
+        → IfErr result (λ error. error ≡ PackError.OutOfMemory) }
+    ensures errors { IfErr result (λ error. error ≢ PackError.OutOfMemory → error ≡ PackError.Damaged) }
 {
     let mut mixer = six_contexts(alloc)?;
     of_predicted(alloc, &mut mixer, content)

@@ -1,33 +1,34 @@
 //! Unpacking from a reader to a writer, block by block.
 
-ghost use Rattle.std.specs.Prelude.{◌≡◌, ◌≢◌, ◌<◌, ◌≤◌, ◌+◌, ◌^◌, ◌++◌, ℕ, List, Option, None, Some, IfErr, IfOk, MatchResult, OnOk, [], length};
+ghost use Rattle.std.specs.Prelude.{◌≡◌, ◌≢◌, ◌<◌, ◌≤◌, ◌+◌, ◌^◌, ◌++◌, ℕ, List, Option, None};
+ghost use Rattle.std.specs.Prelude.{Some, IfErr, IfOk, MatchResult, OnOk, [], length};
 ghost use Rattle.std.specs.Io.KnownBytes.{Appends, Consumes, IsAtEnd};
 ghost use Rattle.constriction_pack.specs.Faults.{IsRefusal};
 ghost use Rattle.constriction_pack.specs.Frames.{IsFrame};
-ghost use Rattle.constriction_pack.specs.Packed.{AreFrames, IsFrameOf, IsPacked};
+ghost use Rattle.constriction_pack.specs.Packed.{AreFrames, IsPacked};
 
 use crate::block::unpack_block;
 use crate::fault::PackError;
-use crate::format::Format;
 use crate::frame::{FIRST_HASH, content_of, read_frame};
 use crate::reading::{read_end, read_signature};
-use crate::word_block::read_word_block;
-use crate::writing::write_whole;
+use constriction_io::write_whole;
 use std::alloc::Global;
 use std::io::{Read, Write};
 
-/// Reads the next frame, after frames with this hash. It answers the bytes of its block and the hash after it, or `None` after the last one.
+/// Reads the next frame, after frames with this hash. It answers the bytes of its block and the
+/// hash after it, or `None` after the last one.
 fn read_block<R: Read>(
     alloc: Global,
     reader: &mut R,
     buffer: &mut Vec<u8>,
     before: u64,
 ) -> Result<(Vec<u8>, Option<u64>), PackError>
-    ensures ok { IfOk result (λ answer. (frame : List ℕ) × IsFrame before answer.0.items frame answer.1
+    ensures ok { IfOk result (λ answer. (frame : List ℕ)
+        × IsFrame before answer.0.items frame answer.1
         × Consumes (R.remaining reader.old) (R.remaining reader.new) frame) }
-    ensures accepted { (bytes frames : List ℕ) → AreFrames Format.Cpk2 (Some before) bytes frames → R.remaining reader.old ≡ Some frames
-        → IfErr result (λ fault. ¬ (IsRefusal fault)) }
-    ensures faults { IfErr result (λ fault. fault ≢ PackError.TooLong) }
+    ensures accepted { (bytes frames : List ℕ) → AreFrames (Some before) bytes frames
+        → R.remaining reader.old ≡ Some frames → IfErr result (λ error. ¬ (IsRefusal error)) }
+    ensures errors { IfErr result (λ error. error ≢ PackError.TooLong) }
 {
     let (kind, is_last, after) = read_frame(reader, before, buffer)?;
     let block = unpack_block(alloc, kind, content_of(buffer))?;
@@ -37,50 +38,27 @@ fn read_block<R: Read>(
     Ok((block, Some(after)))
 }
 
-/// The same of a file of this format.
-fn read_either<R: Read>(
-    alloc: Global,
-    format: Format,
-    reader: &mut R,
-    buffer: &mut Vec<u8>,
-    before: u64,
-) -> Result<(Vec<u8>, Option<u64>), PackError>
-    ensures ok { IfOk result (λ answer. (frame : List ℕ) × IsFrameOf format before answer.0.items frame answer.1
-        × Consumes (R.remaining reader.old) (R.remaining reader.new) frame) }
-    ensures accepted { (bytes frames : List ℕ) → AreFrames format (Some before) bytes frames → R.remaining reader.old ≡ Some frames
-        → IfErr result (λ fault. ¬ (IsRefusal fault)) }
-    ensures faults { IfErr result (λ fault. fault ≢ PackError.TooLong) }
-{
-    match format {
-        Format::Cpk1 => {
-            let (block, after) = read_word_block(alloc, reader, buffer, before)?;
-            Ok((block, after))
-        }
-        Format::Cpk2 => {
-            let (block, after) = read_block(alloc, reader, buffer, before)?;
-            Ok((block, after))
-        }
-    }
-}
-
-/// The same. It also reads that nothing follows the last frame, and that the block has no more bytes than `most`.
+/// The same. It also reads that nothing follows the last frame, and that the block has no more
+/// bytes than `most`.
 fn read_next<R: Read>(
     alloc: Global,
-    format: Format,
     reader: &mut R,
     buffer: &mut Vec<u8>,
     before: u64,
     most: u64,
 ) -> Result<(Vec<u8>, Option<u64>), PackError>
-    ensures ok { IfOk result (λ answer. (frame : List ℕ) × IsFrameOf format before answer.0.items frame answer.1
+    ensures ok { IfOk result (λ answer. (frame : List ℕ)
+        × IsFrame before answer.0.items frame answer.1
         × Consumes (R.remaining reader.old) (R.remaining reader.new) frame) }
     ensures end { IfOk result (λ answer. answer.1 ≡ None → IsAtEnd (R.remaining reader.new)) }
     ensures most { IfOk result (λ answer. length answer.0.items ≤ most) }
-    ensures long { IfErr result (λ fault. fault ≡ PackError.TooLong → most < 2 ^ 23) }
-    ensures accepted { (bytes frames : List ℕ) → AreFrames format (Some before) bytes frames → R.remaining reader.old ≡ Some frames
-        → IfErr result (λ fault. IsRefusal fault → (fault ≡ PackError.TooLong) × (most < length bytes)) }
+    ensures long { IfErr result (λ error. error ≡ PackError.TooLong → most < 2 ^ 23) }
+    ensures accepted { (bytes frames : List ℕ) → AreFrames (Some before) bytes frames
+        → R.remaining reader.old ≡ Some frames
+        → IfErr result (λ error. IsRefusal error → (error ≡ PackError.TooLong)
+        × (most < length bytes)) }
 {
-    let (block, after) = read_either(alloc, format, reader, buffer, before)?;
+    let (block, after) = read_block(alloc, reader, buffer, before)?;
     if block.len() as u64 > most {
         return Err(PackError::TooLong);
     }
@@ -93,35 +71,43 @@ fn read_next<R: Read>(
     }
 }
 
-/// Unpacks a packed file of at most `limit` bytes, to the reader's end. There is no limit if it is `u64::MAX`.
+/// Unpacks a packed file of at most `limit` bytes, to the reader's end. There is no limit if it is
+/// `u64::MAX`.
 ///
-/// The writer is not flushed. Only what is no packed file is refused, as `NotPacked`, `Cut` or `Damaged`, and one that holds more than the
-/// limit, as `TooLong`. A block is written once its checksum is right, all of it is decoded, and nothing follows if it is the last one: if
-/// the end of a packed file was lost, what stands after a refusal is a beginning of the bytes. Memory is asked for one block at a time, and
-/// for what was read, however much there is said to be.
-#[tactic(auto, using(crate::proofs::FileLemmas::read_begun, crate::proofs::FileLemmas::read_more))]
+/// The writer is not flushed. Only what is no packed file is refused, as `NotPacked`, `Cut` or
+/// `Damaged`, and one that holds more than the limit, as `TooLong`. A block is written once its
+/// checksum is right, all of it is decoded, and nothing follows if it is the last one: if the end
+/// of a packed file was lost, what stands after a refusal is a beginning of the bytes. Memory is
+/// asked for one block at a time, and for what was read, however much there is said to be.
+#[tactic(auto, using(crate::proofs::FileLemmas::read_begun))]
 pub fn unpack<R: Read, W: Write>(
     alloc: Global,
     limit: u64,
     reader: &mut R,
     writer: &mut W,
 ) -> Result<(), PackError>
-    ensures ok { OnOk result ((bytes packed : List ℕ) × Consumes (R.remaining reader.old) (R.remaining reader.new) packed
-        × IsAtEnd (R.remaining reader.new) × Appends (W.contents writer.old) (W.contents writer.new) bytes × IsPacked bytes packed) }
-    ensures limit { (written : List ℕ) × Appends (W.contents writer.old) (W.contents writer.new) written × (length written ≤ limit)
-        × IfErr result (λ fault. fault ≡ PackError.TooLong → limit < length written + 2 ^ 23) }
-    ensures accepted { (bytes packed : List ℕ) → R.remaining reader.old ≡ Some packed → IsPacked bytes packed
-        → IfErr result (λ fault. IsRefusal fault → (fault ≡ PackError.TooLong) × (limit < length bytes)) }
-    ensures cut { (bytes packed lost : List ℕ) → R.remaining reader.old ≡ Some packed → IsPacked bytes (packed ++ lost)
-        → MatchResult result (λ _. lost ≡ []) (λ fault. IsRefusal fault → (written rest : List ℕ)
-        × Appends (W.contents writer.old) (W.contents writer.new) written × (written ++ rest ≡ bytes)) }
+    ensures ok { OnOk result ((bytes packed : List ℕ)
+        × Consumes (R.remaining reader.old) (R.remaining reader.new) packed
+        × IsAtEnd (R.remaining reader.new)
+        × Appends (W.contents writer.old) (W.contents writer.new) bytes × IsPacked bytes packed) }
+    ensures limit { (written : List ℕ)
+        × Appends (W.contents writer.old) (W.contents writer.new) written × (length written ≤ limit)
+        × IfErr result (λ error. error ≡ PackError.TooLong → limit < length written + 2 ^ 23) }
+    ensures accepted { (bytes packed : List ℕ) → R.remaining reader.old ≡ Some packed
+        → IsPacked bytes packed → IfErr result (λ error. IsRefusal error
+        → (error ≡ PackError.TooLong) × (limit < length bytes)) }
+    ensures cut { (bytes packed lost : List ℕ) → R.remaining reader.old ≡ Some packed
+        → IsPacked bytes (packed ++ lost)
+        → MatchResult result (λ _. lost ≡ []) (λ error. IsRefusal error → (written rest : List ℕ)
+        × Appends (W.contents writer.old) (W.contents writer.new) written
+        × (written ++ rest ≡ bytes)) }
 {
     let mut buffer = Vec::new(alloc);
-    let format = read_signature(reader, &mut buffer)?;
+    read_signature(reader, &mut buffer)?;
     let mut before = FIRST_HASH;
     let mut left = limit;
-    'blocks: for _ in 0..u64::MAX {
-        let (block, after) = read_next(alloc, format, reader, &mut buffer, before, left)?;
+    for _ in 0..u64::MAX {
+        let (block, after) = read_next(alloc, reader, &mut buffer, before, left)?;
         write_whole(writer, &block)?;
         left -= block.len() as u64;
         match after {

@@ -17,7 +17,8 @@ fn places_for(bytes: &[u8]) -> usize
     }
 }
 
-/// One more than how often each byte occurs, up to the greatest one that occurs. So each of these bytes has a weight.
+/// One more than how often each byte occurs, up to the greatest one that occurs. So each of these
+/// bytes has a weight.
 fn counts_of(alloc: Global, bytes: &[u8]) -> Result<Vec<u64>, AllocError>
     ensures few { IfOk result (λ counts. length counts.items ≤ 256) }
     ensures above { IfOk result (λ counts. All (λ b. b < length counts.items) bytes.now) }

@@ -8,7 +8,6 @@ use constriction_pack::laws::{
 };
 use constriction_pack::{Kind, Level, PackError, pack, pack_block, unpack, unpack_block};
 use std::alloc::Global;
-use std::io::{self, Write};
 use std::process::Abort;
 
 /// Bytes that are stored, and bytes that are weighted: 64, of which four are 1 and the others 0.
@@ -48,11 +47,6 @@ const THREE: &[u8] =
     \x01\x05\x00\x00\x04\x14\x00\x00\x00\x07\xd2\x33\x21\x79\x48\xb3\xe3\xb4\
     \x82\x0e\x00\x00\x8c\x40\x00\x00\x00\x01\x99\xd9\x03\xe5\x26\x88\x01\xec\xee\xde\x93\x31\x8e\x35\x37\x23\x13";
 
-/// A file of the format `cpk1`, with `NINE` in it.
-const OLDER: &[u8] =
-    b"cpk1\x06\x00\x00\x00\x09\x00\x00\x00\x03\x00\x00\x00\xff\x7f\x00\x00\x00\x40\x00\x00\x01\x40\x00\x00\
-      \x90\xfe\x03\x02\xcd\x4b\xfe\xa9\xe0\xd6\xba\xb2\x00\x00\x00\x00\x1d\x7b\x24\x98\x9b\x6b\x51\xeb";
-
 /// The bytes of `THREE`.
 fn three_blocks(rt: &impl Abort, alloc: Global) -> Vec<u8> {
     let mut bytes = Vec::from_slice(alloc, NINE).expect(rt, "memory");
@@ -91,7 +85,6 @@ fn files_are_packed_as_described(rt: HostRuntime) {
         holds(&rt, &found, expected);
         comes_back(&rt, rt.alloc(), expected, bytes);
     }
-    comes_back(&rt, rt.alloc(), OLDER, NINE);
     let bytes = three_blocks(&rt, rt.alloc());
     comes_back(&rt, rt.alloc(), THREE, &bytes);
     let again = file_comes_back(rt.alloc(), Level::Default, RARE).expect(&rt, "memory");
@@ -124,10 +117,10 @@ fn two_blocks_come_back(rt: HostRuntime) {
     holds(&rt, &again, &bytes);
 }
 
-/// Asserts that a file is refused with this fault, and what was written before: a beginning of the bytes that were packed.
-fn is_refused(rt: &impl Abort, alloc: Global, file: &[u8], fault: PackError, written: &[u8]) {
+/// Asserts that a file is refused with this error, and what was written before: a beginning of the bytes that were packed.
+fn is_refused(rt: &impl Abort, alloc: Global, file: &[u8], error: PackError, written: &[u8]) {
     let (result, again) = unpacked(alloc, u64::MAX, file);
-    same(rt, result, Err(fault));
+    same(rt, result, Err(error));
     holds(rt, &again, written);
 }
 
@@ -143,7 +136,7 @@ fn front(bytes: &[u8], count: usize) -> &[u8] {
 /// Asserts that each beginning of `THREE` is refused, and that whole blocks of it were written.
 fn are_refused_if_cut(rt: &impl Abort, alloc: Global, bytes: &[u8]) {
     for end in 0..THREE.len() {
-        let fault = if end < 8 {
+        let error = if end < 8 {
             PackError::NotPacked
         } else {
             PackError::Cut
@@ -155,7 +148,7 @@ fn are_refused_if_cut(rt: &impl Abort, alloc: Global, bytes: &[u8]) {
         } else {
             29
         };
-        is_refused(rt, alloc, &THREE[..end], fault, front(bytes, written));
+        is_refused(rt, alloc, &THREE[..end], error, front(bytes, written));
     }
 }
 
@@ -163,7 +156,7 @@ fn are_refused_if_cut(rt: &impl Abort, alloc: Global, bytes: &[u8]) {
 pub fn status_of(alloc: Global, file: &[u8]) -> u8 {
     match unpacked(alloc, u64::MAX, file).0 {
         Ok(()) => 0,
-        Err(fault) => fault.status(),
+        Err(error) => error.status(),
     }
 }
 
@@ -193,7 +186,7 @@ fn are_refused_if_two_are_flipped(rt: &impl Abort, alloc: Global, file: &mut [u8
 }
 
 /// Files that no bytes have, though their checksums are right: a kind that there is not, 2^32 - 1 times a byte, a header whose exclusive or
-/// is wrong, a content that is longer than any, and more words than a block of the older format has.
+/// is wrong, and a content that is longer than any. And nine bytes in the format of versions before 0.5.0.
 const WRONG_FILES: [(&[u8], PackError); 5] = [
     (
         b"cpk2\r\n\x1a\n\x85\x06\x00\x00\x83abcdef\x24\x27\x77\xa5\x78\x3f\xe3\x2b",
@@ -211,7 +204,11 @@ const WRONG_FILES: [(&[u8], PackError); 5] = [
         b"cpk2\r\n\x1a\n\x80\x01\x00\x80\x01and so on",
         PackError::Damaged,
     ),
-    (b"cpk1\xff\xff\xff\xff", PackError::Damaged),
+    (
+        b"cpk1\x06\x00\x00\x00\x09\x00\x00\x00\x03\x00\x00\x00\xff\x7f\x00\x00\x00\x40\x00\x00\x01\x40\x00\x00\
+          \x90\xfe\x03\x02\xcd\x4b\xfe\xa9\xe0\xd6\xba\xb2\x00\x00\x00\x00\x1d\x7b\x24\x98\x9b\x6b\x51\xeb",
+        PackError::NotPacked,
+    ),
 ];
 
 /// A file is refused if it is cut anywhere, if any bit or any two bytes are flipped, or if a byte follows.
@@ -225,9 +222,6 @@ fn damaged_files_are_refused(rt: HostRuntime) {
     are_refused_if_two_are_flipped(&rt, alloc, &mut damaged);
     damaged.push(0).expect(&rt, "memory");
     is_refused(&rt, alloc, &damaged, PackError::Damaged, front(&bytes, 29));
-    let mut older = Vec::from_slice(alloc, OLDER).expect(&rt, "memory");
-    are_refused_if_flipped(&rt, alloc, &mut older);
-    are_refused_if_two_are_flipped(&rt, alloc, &mut older);
     for file in &WRONG_FILES {
         is_refused(&rt, alloc, file.0, file.1, &[]);
     }
@@ -274,8 +268,8 @@ fn wrong_contents_are_refused(rt: HostRuntime) {
     same(&rt, kind, Kind::Weighted);
     holds(&rt, &content, CONTENT);
     for each in &WRONG_CONTENTS {
-        let fault = unpack_block(rt.alloc(), each.0, each.1).err();
-        same(&rt, fault, Some(PackError::Damaged));
+        let error = unpack_block(rt.alloc(), each.0, each.1).err();
+        same(&rt, error, Some(PackError::Damaged));
     }
     let again = block_comes_back(rt.alloc(), Level::Best, RARE).expect(&rt, "memory");
     holds(&rt, &again, RARE);
@@ -298,43 +292,58 @@ fn nothing_is_written_beyond_the_limit(rt: HostRuntime) {
         same(&rt, result, expected);
         holds(&rt, &written, front(&bytes, count));
     }
-    let (result, written) = unpacked(rt.alloc(), 8, OLDER);
-    same(&rt, result, Err(PackError::TooLong));
-    holds(&rt, &written, &[]);
 }
 
-/// What `unpack` answers to a reader, and what it writes.
-fn unpacked_slowly(alloc: Global, mut reader: SlowReader) -> (Result<(), PackError>, Vec<u8>) {
-    let mut written = Vec::new(alloc);
-    let result = unpack(alloc, u64::MAX, &mut reader, &mut written);
-    (result, written)
+/// What `unpack` answers if the reader fails after so many bytes, and what it writes to a slow writer.
+fn unpacked_slowly(alloc: Global, rest: &[u8], turns: usize) -> (Result<(), PackError>, Vec<u8>) {
+    let mut reader = SlowReader {
+        rest,
+        turns,
+        is_interrupted: false,
+    };
+    let mut writer = SlowWriter {
+        taken: Vec::new(alloc),
+        turns: 1000,
+        is_interrupted: false,
+    };
+    let result = unpack(alloc, u64::MAX, &mut reader, &mut writer);
+    (result, writer.taken)
 }
 
-/// The same of `pack`.
-fn packed_slowly(alloc: Global, mut reader: SlowReader) -> (Result<(), PackError>, Vec<u8>) {
+/// The same of `pack`, to a `Vec`.
+fn packed_slowly(alloc: Global, rest: &[u8], turns: usize) -> (Result<(), PackError>, Vec<u8>) {
+    let mut reader = SlowReader {
+        rest,
+        turns,
+        is_interrupted: false,
+    };
     let mut written = Vec::new(alloc);
     let result = pack(alloc, Level::Fast, &mut reader, &mut written);
     (result, written)
 }
 
 /// Readers give one byte a turn, and fail at the one after the last: the end is not read twice. One that fails is not asked again, and what
-/// was written before stays.
+/// was written before stays. An interrupted call is made again.
 #[test]
 fn readers_fail(rt: HostRuntime) {
     let alloc = rt.alloc();
     let bytes = three_blocks(&rt, alloc);
     for each in &[(40, Err(PackError::Read), 9), (THREE.len() + 1, Ok(()), 93)] {
         let (turns, expected, count) = *each;
-        let (result, written) = unpacked_slowly(alloc, SlowReader { rest: THREE, turns });
+        let (result, written) = unpacked_slowly(alloc, THREE, turns);
         same(&rt, result, expected);
         holds(&rt, &written, front(&bytes, count));
     }
     let zeros = vec![in alloc; 0u8; 1_048_600].expect(&rt, "memory");
-    let rest = zeros.as_slice();
-    let turns = 1_048_590;
-    let (result, written) = packed_slowly(alloc, SlowReader { rest, turns });
+    let (result, written) = packed_slowly(alloc, &zeros, 1_048_590);
     same(&rt, result, Err(PackError::Read));
-    is_refused(&rt, alloc, &written, PackError::Cut, front(rest, 1_048_576));
+    is_refused(
+        &rt,
+        alloc,
+        &written,
+        PackError::Cut,
+        front(&zeros, 1_048_576),
+    );
 }
 
 /// What `pack` answers if the writer fails after so many bytes, and what was written.
@@ -343,8 +352,11 @@ fn packed_partly(
     mut bytes: &[u8],
     turns: usize,
 ) -> (Result<(), PackError>, Vec<u8>) {
-    let taken = Vec::new(alloc);
-    let mut writer = SlowWriter { taken, turns };
+    let mut writer = SlowWriter {
+        taken: Vec::new(alloc),
+        turns,
+        is_interrupted: false,
+    };
     let result = pack(alloc, Level::Fast, &mut bytes, &mut writer);
     (result, writer.taken)
 }
@@ -364,47 +376,20 @@ fn writers_fail(rt: HostRuntime) {
     holds(&rt, &written, file);
 }
 
-/// Takes a byte every other time, and is interrupted the other times.
-#[derive(Drop)]
-struct InterruptedWriter {
-    taken: Vec<u8>,
-    is_interrupted: bool,
+/// What `pack` answers if the writer takes no byte once the room is full.
+fn packed_into(alloc: Global, mut bytes: &[u8], mut room: &mut [u8]) -> Result<(), PackError> {
+    pack(alloc, Level::Fast, &mut bytes, &mut room)
 }
 
-impl Write for InterruptedWriter {
-    fn write(&mut self, buf: &[u8]) -> io::Result<usize> {
-        self.is_interrupted = !self.is_interrupted;
-        if self.is_interrupted {
-            return Err(io::Error::from(io::ErrorKind::Interrupted));
-        }
-        let Some(first) = buf.first() else {
-            return Ok(0);
-        };
-        match self.taken.push(*first) {
-            Ok(()) => Ok(1),
-            Err(_) => Err(io::Error::from(io::ErrorKind::OutOfMemory)),
-        }
-    }
-
-    fn flush(&mut self) -> io::Result<()> {
-        Ok(())
-    }
-}
-
-/// An interrupted write is tried again.
 #[test]
-fn writers_are_interrupted(rt: HostRuntime) {
-    let mut writer = InterruptedWriter {
-        taken: Vec::new(rt.alloc()),
-        is_interrupted: false,
-    };
-    let mut reader = NINE;
-    let result = pack(rt.alloc(), Level::Fast, &mut reader, &mut writer);
-    same(&rt, result, Ok(()));
-    holds(&rt, &writer.taken, FILES[2].1);
+fn a_full_writer_has_a_beginning(rt: HostRuntime) {
+    let mut room = [0u8; 12];
+    let result = packed_into(rt.alloc(), RARE, &mut room);
+    same(&rt, result, Err(PackError::Write));
+    same(&rt, room.as_slice(), &FILES[4].1[..12]);
 }
 
-/// The faults with their statuses and sentences.
+/// The errors with their statuses and sentences.
 const FAULTS: [(PackError, u8, &str); 7] = [
     (PackError::Read, 1, "The input could not be read."),
     (PackError::Write, 1, "The output could not be written."),
@@ -422,9 +407,9 @@ const FAULTS: [(PackError, u8, &str); 7] = [
 #[test]
 fn pack_faults_are_sentences(rt: HostRuntime) {
     for each in &FAULTS {
-        let (fault, status, sentence) = *each;
-        same(&rt, fault.status(), status);
-        prints(&rt, rt.alloc(), &fault, sentence);
+        let (error, status, sentence) = *each;
+        same(&rt, error.status(), status);
+        prints(&rt, rt.alloc(), &error, sentence);
     }
 }
 

@@ -1,26 +1,33 @@
 //! Runs over whole inputs, and over readers and writers that take or give one byte at a time, fail, or end.
 
 use crate::checks::{holds, prints, same};
+use constriction_io::write_whole;
 use constriction_text::{RunFault, run};
 use std::alloc::Global;
-use std::io::{self, Read, Write};
+use std::io::{self, ErrorKind, Read, Write};
 use std::process::Abort;
 
 /// The greatest number of bytes that an input may have.
 const LIMIT: usize = 1_048_576;
 
-/// Gives one byte a call, and fails once, after `turns` calls. If it is asked again, it gives the rest.
+/// Is interrupted every other time. Gives one byte the other times, and fails once, after `turns` of them. If it is asked again, it gives
+/// the rest.
 #[derive(Drop)]
 pub(crate) struct SlowReader<'a> {
     pub(crate) rest: &'a [u8],
     pub(crate) turns: usize,
+    pub(crate) is_interrupted: bool,
 }
 
 impl Read for SlowReader<'_> {
     fn read(&mut self, buf: &mut [u8]) -> io::Result<usize> {
+        self.is_interrupted = !self.is_interrupted;
+        if self.is_interrupted {
+            return Err(io::Error::from(ErrorKind::Interrupted));
+        }
         if self.turns == 0 {
             self.turns = usize::MAX;
-            return Err(io::Error::from(io::ErrorKind::Interrupted));
+            return Err(io::Error::from(ErrorKind::BrokenPipe));
         }
         self.turns -= 1;
         let Some((first, rest)) = self.rest.split_first() else {
@@ -35,17 +42,22 @@ impl Read for SlowReader<'_> {
     }
 }
 
-/// Takes one byte a call, and fails after `turns` calls.
+/// Is interrupted every other time. Takes one byte the other times, and fails after `turns` of them.
 #[derive(Drop)]
 pub(crate) struct SlowWriter {
     pub(crate) taken: Vec<u8>,
     pub(crate) turns: usize,
+    pub(crate) is_interrupted: bool,
 }
 
 impl Write for SlowWriter {
     fn write(&mut self, buf: &[u8]) -> io::Result<usize> {
+        self.is_interrupted = !self.is_interrupted;
+        if self.is_interrupted {
+            return Err(io::Error::from(ErrorKind::Interrupted));
+        }
         if self.turns == 0 {
-            return Err(io::Error::from(io::ErrorKind::BrokenPipe));
+            return Err(io::Error::from(ErrorKind::BrokenPipe));
         }
         self.turns -= 1;
         let Some(first) = buf.first() else {
@@ -53,7 +65,7 @@ impl Write for SlowWriter {
         };
         match self.taken.push(*first) {
             Ok(()) => Ok(1),
-            Err(_) => Err(io::Error::from(io::ErrorKind::OutOfMemory)),
+            Err(_) => Err(io::Error::from(ErrorKind::OutOfMemory)),
         }
     }
 
@@ -124,6 +136,7 @@ fn is_answered_slowly(rt: &impl Abort, alloc: Global, input: &str, text: &str) {
     let mut reader = SlowReader {
         rest: input.as_bytes(),
         turns: 1000,
+        is_interrupted: false,
     };
     let mut written = Vec::new(alloc);
     let result = run_slowly(alloc, &mut reader, &mut written);
@@ -145,6 +158,7 @@ fn a_reader_that_fails_leaves_nothing_written(rt: HostRuntime) {
     let mut reader = SlowReader {
         rest: b"a\nb",
         turns: 2,
+        is_interrupted: false,
     };
     let mut written = Vec::new(rt.alloc());
     let result = run_slowly(rt.alloc(), &mut reader, &mut written);
@@ -155,24 +169,26 @@ fn a_reader_that_fails_leaves_nothing_written(rt: HostRuntime) {
     );
 }
 
-/// Runs over two bad lines, and writes to a slow writer.
-fn run_to_slow(alloc: Global, writer: &mut SlowWriter) -> Result<(), RunFault> {
-    let mut reader = b"a\nb".as_slice();
-    run(alloc, &mut reader, writer)
+/// What a run over ten empty lines answers if the writer fails after `turns` bytes, and what was written.
+fn run_to_slow(alloc: Global, turns: usize) -> (Result<(), RunFault>, Vec<u8>) {
+    let mut reader = b"\n\n\n\n\n\n\n\n\n\n".as_slice();
+    let mut writer = SlowWriter {
+        taken: Vec::new(alloc),
+        turns,
+        is_interrupted: false,
+    };
+    let result = run(alloc, &mut reader, &mut writer);
+    (result, writer.taken)
 }
 
 #[test]
 fn a_writer_that_fails_has_a_beginning(rt: HostRuntime) {
-    let mut writer = SlowWriter {
-        taken: Vec::new(rt.alloc()),
-        turns: 12,
-    };
-    same(
-        &rt,
-        run_to_slow(rt.alloc(), &mut writer),
-        Err(RunFault::Write),
-    );
-    holds(&rt, &writer.taken, b"bad line\nbad");
+    let (result, taken) = run_to_slow(rt.alloc(), 12);
+    same(&rt, result, Err(RunFault::Write));
+    holds(&rt, &taken, b"bad line\nbad");
+    let (result, taken) = run_to_slow(rt.alloc(), 90);
+    same(&rt, (result, taken.len()), (Ok(()), 90));
+    are_lines(&rt, &taken, b"bad line\n");
 }
 
 /// What a run over an input answers, and how many bytes of `room` it leaves.
@@ -191,6 +207,26 @@ fn a_writer_that_takes_no_byte_has_a_beginning(rt: HostRuntime) {
     let (result, places) = run_into(rt.alloc(), b"a\nb", &mut room);
     same(&rt, (result, places), (Err(RunFault::Write), 0));
     same(&rt, room.as_slice(), b"bad line\nbad".as_slice());
+}
+
+/// The kind of the error that stops a write to a room.
+fn kind_of_stop(mut room: &mut [u8], bytes: &[u8]) -> Option<ErrorKind> {
+    match write_whole(&mut room, bytes) {
+        Ok(()) => None,
+        Err(error) => Some(error.0.kind()),
+    }
+}
+
+/// As `write_all` of the standard library says it.
+#[test]
+fn a_writer_that_takes_no_byte_is_said_so(rt: HostRuntime) {
+    let mut room = [0u8; 2];
+    same(&rt, kind_of_stop(&mut room, b"ab"), None);
+    same(
+        &rt,
+        kind_of_stop(&mut room, b"abc"),
+        Some(ErrorKind::WriteZero),
+    );
 }
 
 /// `count` empty lines.

@@ -10,9 +10,9 @@ fn main(rt: HostRuntime) -> ExitCode {
     let mut writer = io::writer(&rt);
     match run(rt.alloc(), &mut reader, &mut writer) {
         Ok(()) => ExitCode::SUCCESS,
-        Err(fault) => {
-            let _ = eprintln!(&rt; "rows: {fault}");
-            ExitCode::from(fault.status())
+        Err(error) => {
+            let _ = eprintln!(&rt; "rows: {error}");
+            ExitCode::from(error.status())
         }
     }
 }

@@ -151,7 +151,7 @@ pub fn read_model<Symbol: Eq + Drop, Source: ReadWords<u32, Queue>, const PRECIS
     };
     match stored_model_of(alloc, symbols, weights) {
         Ok(table) => Ok(table),
-        Err(fault) => Err(CoderError::Frontend(fault)),
+        Err(error) => Err(CoderError::Frontend(error)),
     }
 }
 

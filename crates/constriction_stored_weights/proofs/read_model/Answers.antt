@@ -11,5 +11,5 @@ pub returns-in-Err-stored_model_of-clause-err : goal.returns-in-Err-stored_model
 returns-in-Err-stored_model_of-clause-err g c =
     no-model g.Source.ReadWords.read_gives g.Source.ReadWords.tells_upcoming
     (λ weights. ¬ (AreAccepted g.Symbol.PartialEq.eq 32 g.row.PRECISION c.args.symbols.items weights)) c.args.source.now
-    c.in-Ok.weights.items _ c.in-Ok.ensures.ok c.in-Err-stored_model_of.fault
+    c.in-Ok.weights.items _ c.in-Ok.ensures.ok c.in-Err-stored_model_of.error
     (λ is. c.in-Err-stored_model_of.ensures.not_accepted (ap Err is)) (λ is. c.in-Err-stored_model_of.ensures.whole (ap Err is))

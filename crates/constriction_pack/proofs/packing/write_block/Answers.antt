@@ -9,7 +9,8 @@ use Rattle.constriction_pack.proofs.packing.write_block.Goals as goal
 
 pub returns-in_ok-after-in-Some-clause-ok : goal.returns-in_ok-after-in-Some-clause-ok
 returns-in_ok-after-in-Some-clause-ok g c =
-    let coded : IsContent c.in-Some.kind c.args.block.now c.in-Some.content.items = rw c.in-Some.is at c.in_ok-kind.ensures.coded in
+    let coded : IsContent c.in-Some.kind c.args.block.now c.in-Some.content.items =
+    rw c.in-Some.is at c.in_ok-kind.ensures.coded in
     let shorter = rw c.in-Some.is at c.in_ok-kind.ensures.shorter in
     let tag = tag_of c.in-Some.kind c.args.is_last in (
       frame_of c.args.before tag c.deref.result.now,
@@ -23,7 +24,12 @@ returns-in_ok-after-in-Some-clause-ok g c =
         leads = c.in_ok-after-in-Some.ensures.leads;
       },
       c.in_ok-after-in-Some.ensures.ok,
-      omega (arith, shorter, length_frame_of c.args.before tag c.deref.result.now, ap length c.deref.ensures.value),
+      omega (
+        arith,
+        shorter,
+        length_frame_of c.args.before tag c.deref.result.now,
+        ap length c.deref.ensures.value,
+      ),
     )
 
 pub returns-in_ok-after-in-None-clause-ok : goal.returns-in_ok-after-in-None-clause-ok
@@ -47,7 +53,9 @@ pub returns-in_err-kind-clause-part : goal.returns-in_err-kind-clause-part
 returns-in_err-kind-clause-part g c = OnErr-from _ _ (none_written _ c.args.before)
 
 pub returns-in_err-after-in-Some-clause-part : goal.returns-in_err-after-in-Some-clause-part
-returns-in_err-after-in-Some-clause-part g c = OnErr-from _ _ (part_written _ _ c.args.before _ _ c.in_err-after-in-Some.ensures.part)
+returns-in_err-after-in-Some-clause-part g c =
+    OnErr-from _ _ (part_written _ _ c.args.before _ _ c.in_err-after-in-Some.ensures.part)
 
 pub returns-in_err-after-in-None-clause-part : goal.returns-in_err-after-in-None-clause-part
-returns-in_err-after-in-None-clause-part g c = OnErr-from _ _ (part_written _ _ c.args.before _ _ c.in_err-after-in-None.ensures.part)
+returns-in_err-after-in-None-clause-part g c =
+    OnErr-from _ _ (part_written _ _ c.args.before _ _ c.in_err-after-in-None.ensures.part)

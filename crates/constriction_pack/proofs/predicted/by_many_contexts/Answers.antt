@@ -7,5 +7,6 @@ use Rattle.constriction_pack.proofs.predicted.by_many_contexts.Goals as goal
 pub returns-clause-coded : goal.returns-clause-coded
 returns-clause-coded c =
     subst (λ (s : MixerState). IfOk c.predicted.result
-    (λ coded. IfSome coded (λ content. IsPredicted mixer_rows mixer_after s c.args.bytes.now content.items)))
+    (λ coded. IfSome coded (λ content. IsPredicted mixer_rows mixer_after s c.args.bytes.now
+    content.items)))
     c.in_ok-mixer.ensures c.predicted.ensures.coded

@@ -1,4 +1,5 @@
-use Rattle.std.proofs.Common.{◌≡◌, ◌%◌, ◌-◌, ◌∷◌, ◌++◌, ℕ, List, [], length, length-drop, drop, take, ap, sym, ◌∙◌, arith, refl, subst}
+use Rattle.std.proofs.Common.{◌≡◌, ◌%◌, ◌-◌, ◌∷◌, ◌++◌, ℕ, List, [], length, length-drop, drop}
+use Rattle.std.proofs.Common.{take, ap, sym, ◌∙◌, arith, refl, subst}
 use Rattle.std.proofs.lemmas.Grind.{common_steps}
 use Rattle.std.proofs.lemmas.List.{take_all}
 use Rattle.constriction_adaptive.specs.Bytes.{AreReadFrom}
@@ -9,14 +10,17 @@ use Rattle.constriction_pack.proofs.predicted.of_predicted.Goals as goal
 
 -- all that follows four bytes
 whole : (content : List ℕ) → take (length content - 4) (drop 4 content) ≡ drop 4 content
-whole content = take_all (length content - 4) (drop 4 content) (omega (arith, length-drop 4 content))
+whole content = take_all (length content - 4) (drop 4 content)
+    (omega (arith, length-drop 4 content))
 
 pub returns-in-Err-CutWord-clause-accepted : goal.returns-in-Err-CutWord-clause-accepted
 returns-in-Err-CutWord-clause-accepted g c = λ bytes p.
     let content = c.args.content.now in
-    let laid : content ≡ bytes_of_words (c.number_of-count.result ∷ []) ++ drop 4 content = grind (arith, common_steps) in
+    let laid : content ≡ bytes_of_words (c.number_of-count.result ∷ []) ++ drop 4 content =
+    grind (arith, common_steps) in
     let same : drop 4 content ≡ bytes_of_words p.words = ap (drop 4) (sym laid ∙ p.laid_out) in
-    let whole : length (drop 4 content) % 4 ≡ 0 = omega (arith, ap length same, length-bytes_of_words p.words) in
+    let whole : length (drop 4 content) % 4 ≡ 0 =
+    omega (arith, ap length same, length-bytes_of_words p.words) in
     grind (arith, whole)
 
 pub returns-in-Ok-decode_bytes-clause-ok : goal.returns-in-Ok-decode_bytes-clause-ok
@@ -26,7 +30,8 @@ returns-in-Ok-decode_bytes-clause-ok g c =
     let words = c.in-Ok.words.items in
     let known : words ≡ drop source.result.pos source.result.buf.items =
     rw (ap (λ p. p.1) source.ensures, ap (λ p. p.0) source.ensures) refl in
-    let laid : content ≡ bytes_of_words (c.number_of-count.result ∷ []) ++ drop 4 content = grind (arith, common_steps) in
+    let laid : content ≡ bytes_of_words (c.number_of-count.result ∷ []) ++ drop 4 content =
+    grind (arith, common_steps) in
     let coded : bytes_of_words words ≡ drop 4 content = c.in-Ok.ensures.ok ∙ whole content in
     let count = c.in-Ok-decode_bytes.ensures.count in record {
       some = omega (arith, count, c.if-count-eq0.false);
@@ -44,11 +49,16 @@ returns-in-Err-Frontend-InvalidData-clause-accepted g c = λ bytes p.
     let words = c.in-Ok.words.items in
     let known : words ≡ drop source.result.pos source.result.buf.items =
     rw (ap (λ q. q.1) source.ensures, ap (λ q. q.0) source.ensures) refl in
-    let laid : content ≡ bytes_of_words (c.number_of-count.result ∷ []) ++ drop 4 content = grind (arith, common_steps) in
+    let laid : content ≡ bytes_of_words (c.number_of-count.result ∷ []) ++ drop 4 content =
+    grind (arith, common_steps) in
     let e = sym laid ∙ p.laid_out in
-    let count : length bytes ≡ c.number_of-count.result = sym (number_once c.number_of-count.result (length bytes) _ _ e) in
-    let same : words ≡ p.words = bytes_once words p.words (c.in-Ok.ensures.ok ∙ whole content ∙ ap (drop 4) e) in
-    let read : AreReadFrom g.P.Predictor.rows g.P.Predictor.next (g.P.Predictor.state c.args.predictor.now) bytes words =
-    subst (λ (ws : List ℕ). AreReadFrom g.P.Predictor.rows g.P.Predictor.next (g.P.Predictor.state c.args.predictor.now) bytes ws)
+    let count : length bytes ≡ c.number_of-count.result =
+    sym (number_once c.number_of-count.result (length bytes) _ _ e) in
+    let same : words ≡ p.words = bytes_once words p.words
+    (c.in-Ok.ensures.ok ∙ whole content ∙ ap (drop 4) e) in
+    let read : AreReadFrom g.P.Predictor.rows g.P.Predictor.next
+    (g.P.Predictor.state c.args.predictor.now) bytes words =
+    subst (λ (ws : List ℕ). AreReadFrom g.P.Predictor.rows g.P.Predictor.next
+    (g.P.Predictor.state c.args.predictor.now) bytes ws)
     (sym same) p.read in
     absurd (c.in-Err-Frontend-InvalidData.ensures.valid (cc) bytes words count read known)

@@ -12,7 +12,8 @@ returns-clause-coded g c = record {
   laid_out = c.in_ok-push_words-2.ensures.ok
       ∙ ap (λ ws. c.push_words.new.bytes.items ++ bytes_of_words ws) c.deref.ensures.value
       ∙ ap (λ bs. bs ++ bytes_of_words c.in_ok-words.words.items)
-      (c.in_ok-push_words.ensures.ok ∙ ap (λ bs. bs ++ bytes_of_words (length c.args.bytes.now ∷ [])) c.new-content.ensures.items);
+      (c.in_ok-push_words.ensures.ok
+      ∙ ap (λ bs. bs ++ bytes_of_words (length c.args.bytes.now ∷ [])) c.new-content.ensures.items);
 }
 
 pub returns-clause-shorter : goal.returns-clause-shorter

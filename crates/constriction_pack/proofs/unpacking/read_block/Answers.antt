@@ -17,6 +17,8 @@ content_of-requires g c =
 pub returns-in_err-block-clause-accepted : goal.returns-in_err-block-clause-accepted
 returns-in_err-block-clause-accepted g c = λ bytes frames framed known.
     let read = c.in_ok-kind.ensures.ok in
-    let there = content_stands c.args.before bytes frames _ _ c.in_ok-kind.kind c.in_ok-kind.is_last read.0 _ framed known read.4 read.2 in
-    let content : c.content_of.result.now ≡ read.0 = c.content_of.ensures _ _ read.0 (c.deref.ensures.value ∙ read.2) in
+    let there = content_stands c.args.before bytes frames _ _ c.in_ok-kind.kind c.in_ok-kind.is_last
+    read.0 _ framed known read.4 read.2 in
+    let content : c.content_of.result.now ≡ read.0 = c.content_of.ensures _ _ read.0
+    (c.deref.ensures.value ∙ read.2) in
     search (rules, c.in_err-block.ensures.accepted there.0 (rw content there.1))

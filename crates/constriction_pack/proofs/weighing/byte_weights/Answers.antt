@@ -8,8 +8,13 @@ returns-in-Ok-clause-accepted c =
     let same = c.deref.ensures.value in record {
       tiles = record {
         positive = All-from_get_or (λ w. 0 < w) _ 0 (λ place less. (c.in-Ok.ensures.occur place).1
-            (rw same (c.in_ok-counts.ensures.positive place 0 (omega (arith, c.in-Ok.ensures.ok.as_many, ap length same)))));
+            (rw same (c.in_ok-counts.ensures.positive place 0
+            (omega (arith, c.in-Ok.ensures.ok.as_many, ap length same)))));
         total = c.in-Ok.ensures.total;
       };
-      fit = λ place d less. omega (arith, get_or-le-sum_by (λ w. w) c.in-Ok.weights.items place d less, c.in-Ok.ensures.total);
+      fit = λ place d less. omega (
+        arith,
+        c.in-Ok.ensures.total,
+        get_or-le-sum_by (λ w. w) c.in-Ok.weights.items place d less,
+      );
     }
