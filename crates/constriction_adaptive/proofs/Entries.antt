@@ -35,8 +35,8 @@ module _ {Place : Type 0} (entry : Place → Option (ℕ × ℕ)) (precision : �
   -- one place more is encoded, before the places that are
   pub encoded-more : (places : List Place) (found : List (ℕ × ℕ)) (i : ℕ) (one : ℕ × ℕ) (new mid old : Content)
       → AllZip (IsEntryAt precision entry) places found → i < length found → one ≡ get_or found i one
-      → IsOnTop precision one.0 one.1 new mid → InTurn (IsEncoded entry precision) (drop (suc i) places) mid old
-      → InTurn (IsEncoded entry precision) (drop i places) new old
+      → IsOnTop precision one.0 one.1 new mid → InTurn (λ s. IsEncoded (entry s) precision) (drop (suc i) places) mid old
+      → InTurn (λ s. IsEncoded (entry s) precision) (drop i places) new old
   encoded-more [] [] i one new mid old h less is top led = absurd (omega (arith, less))
   encoded-more [] (f ∷ fs) i one new mid old h less is top led = absurd h
   encoded-more (p ∷ ps) [] i one new mid old h less is top led = absurd h

@@ -52,7 +52,7 @@ module _ {State : Type 0} (rows : State → List (Row Bool)) (next : State → B
   Step = IsReadIn rows (λ s t. t ≡ s) beq 16 TakesFirst
 
   abbrev Narrows : State × Bool → Span → Span → Type 0
-  Narrows = IsNarrowed (entry_at (entry_in rows beq)) 16
+  Narrows s = IsNarrowed (entry_at (entry_in rows beq) s) 16
 
   abbrev Tiles : State × Bool → Type 0
   Tiles place = RowsTile 32 16 (rows place.0)

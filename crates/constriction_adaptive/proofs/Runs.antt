@@ -1,5 +1,5 @@
 -- Runs of symbols in their states: they grow at the end, are joined, and stop.
-use Rattle.std.proofs.Common.{◌≡◌, ℕ, ◌+◌, ◌<◌, suc, Bool, List, [], ◌∷◌, ◌++◌, fold, length, take, drop, get_or, Some, refl, ap, sym, ◌∙◌, subst}
+use Rattle.std.proofs.Common.{◌≡◌, ℕ, ◌+◌, ◌<◌, suc, Bool, List, [], ◌∷◌, ◌++◌, fold, length, take, drop, get_or, refl, ap, sym, ◌∙◌, subst}
 use Rattle.std.specs.Prelude.{All}
 use Rattle.std.specs.List.{AllZip}
 use Rattle.std.proofs.lemmas.List.{take_more}
@@ -114,15 +114,9 @@ module _ {State Symbol : Type 0} (rows : State → List (Row Symbol)) (next : St
 
 module _ {State Symbol : Type 0} (rows : State → List (Row Symbol)) (eq : Symbol → Symbol → Bool) (precision : ℕ)
     (made : List (Row Symbol)) (state : State) (is : made ≡ rows state) where
-  pub narrowed-in : (symbol : Symbol) (old new : Span) → IsNarrowed (entry_of eq made) precision symbol old new
-      → IsNarrowed (entry_at (entry_in rows eq)) precision (state, symbol) old new
-  narrowed-in symbol old new step = record {
-    left = step.left;
-    weight = step.weight;
-    known = subst (λ (r : List (Row Symbol)). entry_of eq r symbol ≡ Some (step.left, step.weight)) is step.known;
-    within = step.within;
-    next = step.next;
-  }
+  pub narrowed-in : (symbol : Symbol) (old new : Span) → IsNarrowed (entry_of eq made symbol) precision old new
+      → IsNarrowed (entry_at (entry_in rows eq) (state, symbol)) precision old new
+  narrowed-in symbol old new step = subst (λ (r : List (Row Symbol)). IsNarrowed (entry_of eq r symbol) precision old new) is step
 
   pub tile-in : RowsTile 32 precision made → RowsTile 32 precision (rows state)
   tile-in tile = subst (λ (r : List (Row Symbol)). RowsTile 32 precision r) is tile

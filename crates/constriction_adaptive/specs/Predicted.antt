@@ -96,7 +96,7 @@ module _ {State Symbol : Type 0} (next : State → Symbol → State) where
   -- the symbols were learned and then encoded, so that the first one is on top
   pub record AreStacked (entry : State × Symbol → Option (ℕ × ℕ)) (precision : ℕ) (symbols : List Symbol) (first : State) (old : Content)
       (last : State) (new : Content) : Type 0 where
-    pub led : InTurn (IsEncoded entry precision) (placed next first symbols) new old
+    pub led : InTurn (λ s. IsEncoded (entry s) precision) (placed next first symbols) new old
     pub learned : last ≡ fold next first symbols
 
   -- Nothing was encoded, since a symbol has no entry or memory was refused; or all symbols were learned, and a write failed after those
@@ -108,4 +108,4 @@ module _ {State Symbol : Type 0} (next : State → Symbol → State) where
   StackingStops entry precision symbols (Backend error) first old last new =
       (done : List Symbol) × (symbol : Symbol) × (after : List Symbol) × (symbols ≡ done ++ symbol ∷ after)
       × (last ≡ fold next first symbols)
-      × InTurn (IsEncoded (entry_at entry) precision) (placed next (next (fold next first done) symbol) after) new old
+      × InTurn (λ s. IsEncoded (entry_at entry s) precision) (placed next (next (fold next first done) symbol) after) new old

@@ -56,10 +56,10 @@ pub fn encode_byte<P>(
 ) -> Result<(), CoderError<EncoderFrontendError, AllocError>>
 where
     P: Predictor<16, Symbol = bool, Model = Bit>,
-    ensures ok { OnOk result (AreCoded P.next (IsNarrowed (entry_at (entry_in P.rows beq)) 16) (bits_of byte)
+    ensures ok { OnOk result (AreCoded P.next (λ s. IsNarrowed (entry_at (entry_in P.rows beq) s) 16) (bits_of byte)
         (P.state predictor.old) encoder.old (P.state predictor.new) encoder.new) }
     ensures tile { OnOk result (AllTile P.rows P.next 16 (P.state predictor.old) (bits_of byte)) }
-    ensures err { IfErr result (λ error. EncodingStops P.next (IsNarrowed (entry_at (entry_in P.rows beq)) 16)
+    ensures err { IfErr result (λ error. EncodingStops P.next (λ s. IsNarrowed (entry_at (entry_in P.rows beq) s) 16)
         (IsEncodingFault (entry_at (entry_in P.rows beq)) 16 error) (bits_of byte)
         (P.state predictor.old) encoder.old (P.state predictor.new) encoder.new) }
     ensures possible { result ≢ Err (CoderError.Frontend EncoderFrontendError.ImpossibleSymbol) }

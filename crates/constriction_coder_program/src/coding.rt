@@ -7,6 +7,7 @@ use constriction::backends::Cursor;
 use constriction::stream::model::{ContiguousCategoricalEntropyModel, ModelError};
 use constriction_coders::queue::{DecoderFrontendError, RangeDecoder, RangeEncoder};
 use constriction_coders::stack::AnsCoder;
+use constriction_coders::{Decode, Encode};
 use std::alloc::{AllocError, Global};
 
 /// Why a line has no words or symbols as its answer.

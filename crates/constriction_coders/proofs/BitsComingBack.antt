@@ -64,7 +64,7 @@ module _ {Symbol Latent PosteriorModel LikelihoodModel : Type 0}
       posterior-back answer chosen same chooses = sym (fit.posteriors symbol answer e.posterior.0 chosen same e.posterior.1 chooses)
 
       -- by which the latent symbol was encoded on what was left when it was decoded
-      drawn : (latent : Latent) → prior_eq e.latent latent ≡ true → IsEncoded entry precision latent old e.drawn
+      drawn : (latent : Latent) → prior_eq e.latent latent ≡ true → IsEncoded (entry latent) precision old e.drawn
       drawn latent same =
           let invertible = fit.invertible symbol e.posterior.0 e.posterior.1 in
           let one = one-to-one posterior_eq entry 32 precision (posterior_rows e.posterior.0) (posterior_tile e.posterior.0) (λ s. refl)
@@ -101,10 +101,10 @@ module _ {Symbol Latent PosteriorModel LikelihoodModel : Type 0}
             posterior-back symbol full old e answer d.posterior.0
             (equal-to LikelihoodStands likelihood_eq laws fit.clones symbol answer coded.0) d.posterior.1
 
-        returned : IsEncoded (entry symbol full old e) precision d.latent new e.drawn
+        returned : IsEncoded (entry symbol full old e d.latent) precision new e.drawn
         returned =
-            subst (λ (rs : List (Row Latent)). IsEncoded (entry_of posterior_eq rs) precision d.latent new e.drawn) same_posterior
-            (subst (λ (c : Content). IsEncoded (entry_of posterior_eq (posterior_rows d.posterior.0)) precision d.latent new c) coded.1
+            subst (λ (rs : List (Row Latent)). IsEncoded (entry_of posterior_eq rs d.latent) precision new e.drawn) same_posterior
+            (subst (λ (c : Content). IsEncoded (entry_of posterior_eq (posterior_rows d.posterior.0) d.latent) precision new c) coded.1
             d.posterior.2)
 
         again : new ≡ old

@@ -14,7 +14,7 @@ module _ {Symbol : Type 0} (Stands : Symbol → Symbol → Type 0) (eq : Symbol 
     (rows : List (Row Symbol)) (bits precision : ℕ) (tile : RowsTile bits precision rows)
     (alike : (s : Symbol) → entry s ≡ entry_of eq rows s) where
   -- what is decoded after a symbol was encoded stands for an equal one, and what was under it is left
-  pub symbol-back : (symbol answer : Symbol) (full rest under : Content) → IsEncoded entry precision symbol full rest
+  pub symbol-back : (symbol answer : Symbol) (full rest under : Content) → IsEncoded (entry symbol) precision full rest
       → IsDecoded Stands rows precision answer full under → StandsForEqual Stands eq symbol answer × (under ≡ rest)
   symbol-back symbol answer full rest under e d =
       let same = entry-back bits precision eq rows symbol e.left e.weight (full.state % 2 ^ precision) d.row tile
@@ -44,8 +44,8 @@ put-once precision left weight a b rest fits ha hb p q =
 
 -- so a symbol is encoded in one way
 pub encode-once : {Symbol : Type 0} (entry : Symbol → Option (ℕ × ℕ)) (precision : ℕ) → precision ≤ 32
-    → (symbol : Symbol) (a b rest : Content) → MayBeHeld a → MayBeHeld b → IsEncoded entry precision symbol a rest
-    → IsEncoded entry precision symbol b rest → a ≡ b
+    → (symbol : Symbol) (a b rest : Content) → MayBeHeld a → MayBeHeld b → IsEncoded (entry symbol) precision a rest
+    → IsEncoded (entry symbol) precision b rest → a ≡ b
 encode-once entry precision fits symbol a b rest ha hb p q =
     let same = one-entry (entry symbol) q.left q.weight p.left p.weight q.known p.known in
     put-once precision p.left p.weight a b rest fits ha hb p.top (rw (same.0, same.1) at q.top)

@@ -101,7 +101,7 @@ module _ {Symbol S E : Type 0} (Stands : Symbol → Symbol → Type 0) (eq : Sym
     (law : (s : S) (r : Result (Option ℕ) E) (t : S) → gives s r t → (ws : List ℕ) → tells s ws → ReadsUpcoming tells ws r t) where
   -- what is decoded after a symbol was encoded stands for an equal one, and the decoder goes on to the next span
   module _ (symbol answer : Symbol) (old new : Span) (words : List ℕ) (now later : Held S) (fit : All (λ w. w < 2 ^ 32) words)
-      (e : IsNarrowed entry precision symbol old new) (lies : LiesIn new words) (here : IsAt tells old words now)
+      (e : IsNarrowed (entry symbol) precision old new) (lies : LiesIn new words) (here : IsAt tells old words now)
       (d : IsRead Stands rows gives precision answer now later) where
     abbrev part : Span
     part = part_in precision e.left e.weight old

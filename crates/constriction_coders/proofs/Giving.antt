@@ -1,6 +1,5 @@
 -- Symbols that an iterator gives, and that are encoded as they come.
-use Rattle.std.proofs.Common.{◌≡◌, List, [], ◌∷◌, ◌++◌, Option, Some, None, Result, Ok, Err, map, reverse, refl, ap, sym, ◌∙◌, subst}
-use Rattle.std.proofs.lemmas.List.{map-append, reverse-append}
+use Rattle.std.proofs.Common.{◌≡◌, List, [], ◌∷◌, Option, Some, None, Result, Ok, Err, map, refl, ap, sym, ◌∙◌, subst}
 use Rattle.std.specs.Iterator.{Yields}
 use Rattle.std.specs.Prelude.{MatchOption}
 use Rattle.constriction_model.specs.Coding.{InTurn}
@@ -12,12 +11,6 @@ pub record GivenSoFar {Symbol I : Type 0} (steps : I → Option Symbol → I →
   pub done : List Symbol
   pub given : Yields steps symbols done rest
   pub so_far : P done
-
--- one symbol more, the last one first
-pub turn-before : {Symbol C : Type 0} (Step : Symbol → C → C → Type 0) (done : List Symbol) (symbol : Symbol) (full mid old : C)
-    → Step symbol full mid → InTurn Step (reverse done) mid old → InTurn Step (reverse (done ++ symbol ∷ [])) full old
-turn-before {Symbol} Step done symbol full mid old step led =
-    subst (λ (ys : List Symbol). InTurn Step ys full old) (sym (reverse-append done (symbol ∷ []))) (mid, step, led)
 
 -- an iterator whose steps are those of another inside it takes what that one takes, as `rev` does
 module _ {Symbol I R : Type 0} (inner : R → I) (steps : I → Option Symbol → I → Type 0) where
@@ -34,24 +27,11 @@ module _ {Symbol I R : Type 0} (inner : R → I) (steps : I → Option Symbol �
   inner-takes s (Err e) OfAll OfThose (done, symbol, last, (rest, given, step), those) =
       (done, symbol, inner last, (inner rest, inner-yields s done rest given, step), those)
 
--- ---- symbols that are given with the same model
-
-map-reverse : {A B : Type 0} (f : A → B) (xs : List A) → reverse (map f xs) ≡ map f (reverse xs)
-map-reverse f [] = refl
-map-reverse f (x ∷ xs) =
-    reverse-append (f x ∷ []) (map f xs) ∙ ap (λ ys. ys ++ f x ∷ []) (map-reverse f xs) ∙ sym (map-append f (reverse xs) (x ∷ []))
-    ∙ ap (map f) (sym (reverse-append (x ∷ []) xs))
-
--- a step at a place that is made of a symbol is a step at the symbol
-module _ {Symbol Place C : Type 0} (Step : Place → C → C → Type 0) (Own : Symbol → C → C → Type 0) (place : Symbol → Place)
-    (so : (x : Symbol) (a b : C) → Step (place x) a b → Own x a b) where
-  pub turns-own : (xs : List Symbol) (a b : C) → InTurn Step (map place xs) a b → InTurn Own xs a b
-  turns-own [] a b same = same
-  turns-own (x ∷ xs) a b (j, step, others) = (j, so x a j step, turns-own xs j b others)
-
-  pub turns-own-back : (xs : List Symbol) (a b : C) → InTurn Step (reverse (map place xs)) a b → InTurn Own (reverse xs) a b
-  turns-own-back xs a b led =
-      turns-own (reverse xs) a b (subst (λ (ps : List Place). InTurn Step ps a b) (map-reverse place xs) led)
+-- steps at places that are made of symbols
+pub turns-own : {Symbol Place C : Type 0} (Step : Place → C → C → Type 0) (place : Symbol → Place) (xs : List Symbol) (a b : C)
+    → InTurn Step (map place xs) a b → InTurn (λ x. Step (place x)) xs a b
+turns-own Step place [] a b same = same
+turns-own Step place (x ∷ xs) a b (j, step, others) = (j, step, turns-own Step place xs j b others)
 
 -- an iterator that gives what another inside it gives, each time with its model
 module _ {Symbol Model I W : Type 0} (inner : W → I) (model : W → Model) (steps : I → Option Symbol → I → Type 0) where

@@ -10,7 +10,7 @@ use Rattle.constriction_coders.specs.Steps.{Content, IsDecoded, IsEncoded}
 module _ {Symbol : Type 0} (Stands : Symbol → Symbol → Type 0) (eq : Symbol → Symbol → Bool) (entry : Symbol → Option (ℕ × ℕ))
     (rows : List (Row Symbol)) (precision : ℕ) (one : IsOneToOne eq entry precision rows) (clones : ClonesAreEqual eq Stands) where
   pub is-encoded : (symbol : Symbol) (full rest : Content) → IsDecoded Stands rows precision symbol full rest
-      → IsEncoded entry precision symbol full rest
+      → IsEncoded (entry symbol) precision full rest
   is-encoded symbol full rest d = record {
     left = d.row.left;
     weight = d.row.weight;
@@ -20,7 +20,7 @@ module _ {Symbol : Type 0} (Stands : Symbol → Symbol → Type 0) (eq : Symbol 
   }
 
   are-encoded : (symbols : List Symbol) (full rest : Content) → InTurn (IsDecoded Stands rows precision) symbols full rest
-      → InTurn (IsEncoded entry precision) symbols full rest
+      → InTurn (λ s. IsEncoded (entry s) precision) symbols full rest
   are-encoded [] full rest d = d
   are-encoded (s ∷ ss) full rest d = (d.0, is-encoded s full d.0 d.1, are-encoded ss d.0 rest d.2)
 

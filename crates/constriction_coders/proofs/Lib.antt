@@ -10,7 +10,6 @@ pub mod GoingBack
 pub mod Intervals
 pub mod Messages
 pub mod Narrowing
-pub mod NarrowingStops
 pub mod NumberLemmas
 pub mod Once
 pub mod PairsComingBack
@@ -18,7 +17,6 @@ pub mod PlacesComingBack
 pub mod Placing
 pub mod PublishedWords
 pub mod RangePlacing
-pub mod SameEntry
 pub mod Sealing
 pub mod Spanning
 pub mod Stacking

@@ -14,18 +14,18 @@ widened-once : (s a b : Span) → IsWidened s a → IsWidened s b → a ≡ b
 widened-once s a b p q = grind arith
 
 module _ {Symbol : Type 0} (entry : Symbol → Option (ℕ × ℕ)) (precision : ℕ) where
-  narrowed-once : (symbol : Symbol) (old a b : Span) → IsNarrowed entry precision symbol old a → IsNarrowed entry precision symbol old b
+  narrowed-once : (symbol : Symbol) (old a b : Span) → IsNarrowed (entry symbol) precision old a → IsNarrowed (entry symbol) precision old b
       → a ≡ b
   narrowed-once symbol old a b p q =
       let same = one-entry (entry symbol) q.left q.weight p.left p.weight q.known p.known in
       widened-once (part_in precision p.left p.weight old) a b p.next (rw (same.0, same.1) at q.next)
 
-  pub run-once : (symbols : List Symbol) (s a b : Span) → InTurn (IsNarrowed entry precision) symbols s a
-      → InTurn (IsNarrowed entry precision) symbols s b → a ≡ b
+  pub run-once : (symbols : List Symbol) (s a b : Span) → InTurn (λ s. IsNarrowed (entry s) precision) symbols s a
+      → InTurn (λ s. IsNarrowed (entry s) precision) symbols s b → a ≡ b
   run-once [] s a b p q = sym p ∙ q
   run-once (x ∷ xs) s a b p q =
       run-once xs p.0 a b p.2
-      (subst (λ (t : Span). InTurn (IsNarrowed entry precision) xs t b) (narrowed-once x s q.0 p.0 q.1 p.1) q.2)
+      (subst (λ (t : Span). InTurn (λ s. IsNarrowed (entry s) precision) xs t b) (narrowed-once x s q.0 p.0 q.1 p.1) q.2)
 
 -- as many words with the same number are the same words
 module _ (a b : List ℕ) (fit : All (λ w. w < 2 ^ 32) a) (fine : All (λ w. w < 2 ^ 32) b) where

@@ -17,7 +17,7 @@ use Rattle.constriction_coders.proofs.Spanning.{lies-run, lies-unwidened, some-s
 
 -- if a symbol is to come, the point is not above all parts
 pub not-above : {Place S : Type 0} (entry : Place → Option (ℕ × ℕ)) (precision : ℕ) (tells : S → List ℕ → Type 0) (words : List ℕ)
-    (place : Place) (old new : Span) (now : Held S) → All (λ w. w < 2 ^ 32) words → IsNarrowed entry precision place old new
+    (place : Place) (old new : Span) (now : Held S) → All (λ w. w < 2 ^ 32) words → IsNarrowed (entry place) precision old new
     → LiesIn new words → IsAt tells old words now → IsAboveAll precision now.held → ⊥
 not-above entry precision tells words place old new now fit e lies here above =
     let unit = old.size / 2 ^ precision in
@@ -34,10 +34,10 @@ module _ {State Symbol Place : Type 0} (places : State → List Symbol → List 
   -- ---- from a stack
 
   module _ (Decodes : Place → Content → Content → Type 0)
-      (step : (state : State) (symbol answer : Symbol) (full rest under : Content) → IsEncoded entry precision (put state symbol) full rest
+      (step : (state : State) (symbol answer : Symbol) (full rest under : Content) → IsEncoded (entry (put state symbol)) precision full rest
       → Decodes (put state answer) full under → Back symbol answer × (under ≡ rest)) where
     symbols-back : (symbols answers : List Symbol) (state : State) (full rest under : Content)
-        → InTurn (IsEncoded entry precision) (places state symbols) full rest → InTurn Decodes (places state answers) full under
+        → InTurn (λ s. IsEncoded (entry s) precision) (places state symbols) full rest → InTurn Decodes (places state answers) full under
         → length answers ≡ length symbols → AllZip Back symbols answers × (under ≡ rest)
     symbols-back [] [] state full rest under e d n =
         let encoded : full ≡ rest = rw (none state) at e in
@@ -46,7 +46,7 @@ module _ {State Symbol Place : Type 0} (places : State → List Symbol → List 
     symbols-back [] (a ∷ ts) state full rest under e d n = absurd (omega arith)
     symbols-back (x ∷ xs) [] state full rest under e d n = absurd (omega arith)
     symbols-back (x ∷ xs) (a ∷ ts) state full rest under e d n =
-        let encoded : InTurn (IsEncoded entry precision) (put state x ∷ places (next state x) xs) full rest = rw (more state x xs) at e in
+        let encoded : InTurn (λ s. IsEncoded (entry s) precision) (put state x ∷ places (next state x) xs) full rest = rw (more state x xs) at e in
         let decoded : InTurn Decodes (put state a ∷ places (next state a) ts) full under = rw (more state a ts) at d in
         let first = step state x a full encoded.0 decoded.0 encoded.1 decoded.1 in
         let on : InTurn Decodes (places (next state x) ts) decoded.0 under =
@@ -61,25 +61,25 @@ module _ {State Symbol Place : Type 0} (places : State → List Symbol → List 
       words = λ symbols answers words opened left stacked compressed.
           let is : stacked.full ≡ opened = compressed-once stacked.full opened words stacked.compressed compressed in
           symbols-back symbols answers first opened _ left
-          (subst (λ (c : Content). InTurn (IsEncoded entry precision) (places first symbols) c (content 0 [])) is stacked.led);
+          (subst (λ (c : Content). InTurn (λ s. IsEncoded (entry s) precision) (places first symbols) c (content 0 [])) is stacked.led);
     }
 
   -- ---- from a range coder
 
   module _ {S : Type 0} (Reads : Place → Held S → Held S → Type 0) (tells : S → List ℕ → Type 0) (positive : 0 < precision)
       (step : (state : State) (symbol answer : Symbol) (old new : Span) (words : List ℕ) (now later : Held S) → All (λ w. w < 2 ^ 32) words
-      → IsNarrowed entry precision (put state symbol) old new → LiesIn new words → IsAt tells old words now
+      → IsNarrowed (entry (put state symbol)) precision old new → LiesIn new words → IsAt tells old words now
       → Reads (put state answer) now later → Back symbol answer × IsAt tells new words later) where
     -- the decoder follows the encoder from `first` on
     abbrev Follows : State → (first last : Span) (symbols answers : List Symbol) → List ℕ → Held S → Type 0
     Follows state first last symbols answers words now =
         AllZip Back (take (length answers) symbols) answers
-        × ((s : Span) × InTurn (IsNarrowed entry precision) (places state (take (length answers) symbols)) first s × IsAt tells s words now
+        × ((s : Span) × InTurn (λ s. IsNarrowed (entry s) precision) (places state (take (length answers) symbols)) first s × IsAt tells s words now
         × (length answers ≡ length symbols → s ≡ last))
         × (length answers < length symbols → IsAboveAll precision now.held → ⊥)
 
     follows : (symbols answers : List Symbol) (state : State) (first last : Span) (words : List ℕ) (now later : Held S)
-        → All (λ w. w < 2 ^ 32) words → InTurn (IsNarrowed entry precision) (places state symbols) first last
+        → All (λ w. w < 2 ^ 32) words → InTurn (λ s. IsNarrowed (entry s) precision) (places state symbols) first last
         → (0 < length symbols → LiesIn last words) → IsAt tells first words now → InTurn Reads (places state answers) now later
         → length answers ≤ length symbols → Follows state first last symbols answers words later
     follows [] [] state first last words now later fit e lies here d few =
@@ -91,7 +91,7 @@ module _ {State Symbol Place : Type 0} (places : State → List Symbol → List 
         )
     follows [] (a ∷ ts) state first last words now later fit e lies here d few = absurd (omega (arith, few))
     follows (x ∷ xs) [] state first last words now later fit e lies here d few =
-        let led : InTurn (IsNarrowed entry precision) (put state x ∷ places (next state x) xs) first last = rw (more state x xs) at e in
+        let led : InTurn (λ s. IsNarrowed (entry s) precision) (put state x ∷ places (next state x) xs) first last = rw (more state x xs) at e in
         let there = lies-run entry precision words fit (places (next state x) xs) led.0 last led.2 (lies (omega arith)) in
         let kept : now ≡ later = rw (none state) at d in (
           tt,
@@ -105,7 +105,7 @@ module _ {State Symbol Place : Type 0} (places : State → List Symbol → List 
               (subst (λ (h : Held S). IsAboveAll precision h.held) (sym kept) above),
         )
     follows (x ∷ xs) (a ∷ ts) state first last words now later fit e lies here d few =
-        let led : InTurn (IsNarrowed entry precision) (put state x ∷ places (next state x) xs) first last = rw (more state x xs) at e in
+        let led : InTurn (λ s. IsNarrowed (entry s) precision) (put state x ∷ places (next state x) xs) first last = rw (more state x xs) at e in
         let read : InTurn Reads (put state a ∷ places (next state a) ts) now later = rw (more state a ts) at d in
         let there = lies-run entry precision words fit (places (next state x) xs) led.0 last led.2 (lies (omega arith)) in
         let back = step state x a first led.0 words now read.0 fit led.1 there here read.1 in
@@ -124,10 +124,10 @@ module _ {State Symbol Place : Type 0} (places : State → List Symbol → List 
         )
 
     not-whole : (symbols : List Symbol) (state : State) (first last : Span) → first.size < 2 ^ 64
-        → InTurn (IsNarrowed entry precision) (places state symbols) first last → 0 < length symbols → last ≡ whole → ⊥
+        → InTurn (λ s. IsNarrowed (entry s) precision) (places state symbols) first last → 0 < length symbols → last ≡ whole → ⊥
     not-whole [] state first last bound e some all = absurd (omega (arith, some))
     not-whole (x ∷ xs) state first last bound e some all =
-        let led : InTurn (IsNarrowed entry precision) (put state x ∷ places (next state x) xs) first last = rw (more state x xs) at e in
+        let led : InTurn (λ s. IsNarrowed (entry s) precision) (put state x ∷ places (next state x) xs) first last = rw (more state x xs) at e in
         some-symbol entry precision positive (put state x) (places (next state x) xs) first last bound led all
 
     pub range-back : (state : State) → RangeMessageComesBack (places state) entry precision Reads tells Back

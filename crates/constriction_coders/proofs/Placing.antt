@@ -13,7 +13,7 @@ begins state words new (inl x) = ([], ap (λ (c : Content). c.words) (sym x.1) �
 begins state words new (inr x) = (x.1 ∷ [], x.3)
 
 module _ {Symbol : Type 0} (entry : Symbol → Option (ℕ × ℕ)) (precision : ℕ) where
-  kept-under : (symbols : List Symbol) (full noted : Content) → InTurn (IsEncoded entry precision) symbols full noted
+  kept-under : (symbols : List Symbol) (full noted : Content) → InTurn (λ s. IsEncoded (entry s) precision) symbols full noted
       → (more : List ℕ) × (full.words ≡ noted.words ++ more)
   kept-under [] full noted p = ([], ap (λ (c : Content). c.words) p ∙ sym (append-nil noted.words))
   kept-under (s ∷ ss) full noted p =

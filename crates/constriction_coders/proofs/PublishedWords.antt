@@ -4,11 +4,11 @@ use Rattle.constriction_coders.specs.Published.{published_entries, published_wor
 use Rattle.constriction_coders.specs.Spans.{Span, span, whole, part_in, IsNarrowed, IsMessageOf}
 
 wide : (left weight : ℕ) (s : Span) → left + weight ≤ 2 ^ 24 → 2 ^ 32 ≤ (part_in 24 left weight s).size
-    → IsNarrowed {Symbol = ℕ × ℕ} (λ e. Some e) 24 (left, weight) s (part_in 24 left weight s)
+    → IsNarrowed (Some (left, weight)) 24 s (part_in 24 left weight s)
 wide left weight s fits h = record { left = left; weight = weight; known = refl; within = fits; next = inl (h, refl) }
 
 small : (left weight : ℕ) (s : Span) → left + weight ≤ 2 ^ 24 → (part_in 24 left weight s).size < 2 ^ 32
-    → IsNarrowed {Symbol = ℕ × ℕ} (λ e. Some e) 24 (left, weight) s
+    → IsNarrowed (Some (left, weight)) 24 s
     (span ((part_in 24 left weight s).low * 2 ^ 32) ((part_in 24 left weight s).size * 2 ^ 32) (s.written + 1))
 small left weight s fits h = record { left = left; weight = weight; known = refl; within = fits; next = inr (h, refl) }
 

@@ -42,7 +42,7 @@ written-sealed s words (inr point) =
 
 module _ {Symbol S : Type 0} (entry : Symbol → Option (ℕ × ℕ)) (precision : ℕ) (positive : 0 < precision) (tells : S → List ℕ → Type 0)
   where
-    written-run : (symbols : List Symbol) (s last : Span) → InTurn (IsNarrowed entry precision) symbols s last → s.written ≤ last.written
+    written-run : (symbols : List Symbol) (s last : Span) → InTurn (λ s. IsNarrowed (entry s) precision) symbols s last → s.written ≤ last.written
     written-run [] s last same = omega (arith, ap (λ (x : Span). x.written) same)
     written-run (x ∷ xs) s last e =
         let rest = written-run xs e.0 last e.2 in
@@ -56,7 +56,7 @@ module _ {Symbol S : Type 0} (entry : Symbol → Option (ℕ × ℕ)) (precision
     in-whole words fit = omega (arith, first-two-more 0 words, word-fits words fit 0, word-fits words fit 1)
 
     near : (symbols : List Symbol) (noted last : Span) (words : List ℕ) → noted.size < 2 ^ 64 → All (λ w. w < 2 ^ 32) words
-        → InTurn (IsNarrowed entry precision) symbols noted last → last ≡ whole
+        → InTurn (λ s. IsNarrowed (entry s) precision) symbols noted last → last ≡ whole
         → (noted.low ≤ number_first (noted.written + 2) words) × (number_first (noted.written + 2) words ≤ noted.low + noted.size)
     near [] noted last words bound fit same none =
         subst (λ (s : Span). (s.low ≤ number_first (s.written + 2) words) × (number_first (s.written + 2) words ≤ s.low + s.size))

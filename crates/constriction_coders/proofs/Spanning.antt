@@ -22,19 +22,19 @@ module _ (words : List ℕ) (fit : All (λ w. w < 2 ^ 32) words) where
 
 module _ {Symbol : Type 0} (entry : Symbol → Option (ℕ × ℕ)) (precision : ℕ) where
   pub lies-back : (symbol : Symbol) (old new : Span) (words : List ℕ) → All (λ w. w < 2 ^ 32) words
-      → IsNarrowed entry precision symbol old new → LiesIn new words → LiesIn old words
+      → IsNarrowed (entry symbol) precision old new → LiesIn new words → LiesIn old words
   lies-back symbol old new words fit e lies =
       let part = lies-unwidened words fit (part_in precision e.left e.weight old) new e.next lies in
       let within = part-within precision old.size (old.size / 2 ^ precision) e.left e.weight (unit-within old.size precision) e.within in
       (omega (arith, part.0), omega (arith, part.1, within))
 
   pub lies-run : (words : List ℕ) → All (λ w. w < 2 ^ 32) words → (symbols : List Symbol) (s last : Span)
-      → InTurn (IsNarrowed entry precision) symbols s last → LiesIn last words → LiesIn s words
+      → InTurn (λ s. IsNarrowed (entry s) precision) symbols s last → LiesIn last words → LiesIn s words
   lies-run words fit [] s last same lies = subst (λ (x : Span). LiesIn x words) (sym same) lies
   lies-run words fit (x ∷ xs) s last e lies = lies-back x s e.0 words fit e.1 (lies-run words fit xs e.0 last e.2 lies)
 
   module _ (positive : 0 < precision) where
-    pub leaves-whole : (symbol : Symbol) (old new : Span) → IsNarrowed entry precision symbol old new → old.size < 2 ^ 64
+    pub leaves-whole : (symbol : Symbol) (old new : Span) → IsNarrowed (entry symbol) precision old new → old.size < 2 ^ 64
         → new.size < 2 ^ 64 - 1
     leaves-whole symbol s new e bound = go e.next
       where
@@ -45,14 +45,14 @@ module _ {Symbol : Type 0} (entry : Symbol → Option (ℕ × ℕ)) (precision :
             omega (arith, less, ap (λ (x : Span). x.size) same.1)
         go (inr wider) = omega (arith, wider.0, ap (λ (x : Span). x.size) wider.1)
 
-    size-run : (symbols : List Symbol) (s last : Span) → s.size < 2 ^ 64 - 1 → InTurn (IsNarrowed entry precision) symbols s last
+    size-run : (symbols : List Symbol) (s last : Span) → s.size < 2 ^ 64 - 1 → InTurn (λ s. IsNarrowed (entry s) precision) symbols s last
         → last.size < 2 ^ 64 - 1
     size-run [] s last less same = omega (arith, less, ap (λ (x : Span). x.size) same)
     size-run (x ∷ xs) s last less e = size-run xs e.0 last (leaves-whole x s e.0 e.1 (omega (arith, less))) e.2
 
     -- symbols do not lead to the span of none
     pub some-symbol : (x : Symbol) (xs : List Symbol) (s last : Span) → s.size < 2 ^ 64
-        → InTurn (IsNarrowed entry precision) (x ∷ xs) s last
+        → InTurn (λ s. IsNarrowed (entry s) precision) (x ∷ xs) s last
         → last ≡ whole → ⊥
     some-symbol x xs s last bound e all =
         let less = size-run xs e.0 last (leaves-whole x s e.0 e.1 bound) e.2 in

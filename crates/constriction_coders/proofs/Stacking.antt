@@ -22,14 +22,14 @@ rest-held precision left weight full rest fits held top =
 
 module _ {Symbol : Type 0} (entry : Symbol → Option (ℕ × ℕ)) (precision : ℕ) (fits : precision ≤ 32) where
   -- symbols are encoded in one way onto what was held before
-  run-once : (symbols : List Symbol) (a b last : Content) → MayBeHeld a → MayBeHeld b → InTurn (IsEncoded entry precision) symbols a last
-      → InTurn (IsEncoded entry precision) symbols b last → a ≡ b
+  run-once : (symbols : List Symbol) (a b last : Content) → MayBeHeld a → MayBeHeld b → InTurn (λ s. IsEncoded (entry s) precision) symbols a last
+      → InTurn (λ s. IsEncoded (entry s) precision) symbols b last → a ≡ b
   run-once [] a b last ha hb p q = p ∙ sym q
   run-once (s ∷ ss) a b last ha hb p q =
       let a-rest = rest-held precision p.1.left p.1.weight a p.0 fits ha p.1.top in
       let b-rest = rest-held precision q.1.left q.1.weight b q.0 fits hb q.1.top in
       let same : p.0 ≡ q.0 = run-once ss p.0 q.0 last a-rest b-rest p.2 q.2 in
-      encode-once entry precision fits s a b q.0 ha hb (subst (λ (c : Content). IsEncoded entry precision s a c) same p.1) q.1
+      encode-once entry precision fits s a b q.0 ha hb (subst (λ (c : Content). IsEncoded (entry s) precision a c) same p.1) q.1
 
   pub words-of-symbols-once : (symbols : List Symbol) (words others : List ℕ) → IsStackOf entry precision symbols words
       → IsStackOf entry precision symbols others → words ≡ others

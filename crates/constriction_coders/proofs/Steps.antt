@@ -49,7 +49,7 @@ put-on-top precision left weight state next words other some within is refills =
 -- if the entry of a symbol is on top, the symbol was encoded
 pub encoded : {Symbol : Type 0} (precision left weight other : ℕ) (entry : Symbol → Option (ℕ × ℕ)) (symbol : Symbol) (full rest : Content)
     → entry symbol ≡ Some (left, other) → other ≡ weight → IsOnTop precision left weight full rest
-    → IsEncoded entry precision symbol full rest
+    → IsEncoded (entry symbol) precision full rest
 encoded precision left weight other entry symbol full rest known same top =
     record { left = left; weight = weight; known = rw same at known; top = top }
 

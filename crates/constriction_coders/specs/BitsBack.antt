@@ -24,7 +24,7 @@ module _ {Other Symbol Model : Type 0} (Chooses : Other → Model → Type 0) (r
   -- the symbol is encoded by a model that the other one chooses
   abbrev pub IsEncodedByChosen : (eq : Symbol → Symbol → Bool) → Other → Symbol → Content → Content → Type 0
   IsEncodedByChosen eq other symbol full rest =
-      (model : Model) × Chooses other model × IsEncoded (entry_of eq (rows model)) precision symbol full rest
+      (model : Model) × Chooses other model × IsEncoded (entry_of eq (rows model) symbol) precision full rest
 
   -- the symbol is decoded by such a model
   abbrev pub IsDecodedByChosen : (Stands : Symbol → Symbol → Type 0) → Other → Symbol → Content → Content → Type 0
@@ -60,7 +60,7 @@ module _ {Symbol Latent PosteriorModel LikelihoodModel : Type 0}
     abbrev pub IsEncodedByLatent : Symbol → (full rest : Content) → Type 0
     IsEncodedByLatent =
         IsCodedByLatent (IsDecodedByChosen Posterior posterior_rows precision PosteriorStands)
-        (IsEncodedByChosen Likelihood likelihood_rows precision likelihood_eq) (IsEncoded (entry_of prior_eq prior) precision)
+        (IsEncodedByChosen Likelihood likelihood_rows precision likelihood_eq) (λ s. IsEncoded (entry_of prior_eq prior s) precision)
 
     -- the symbol is decoded, and the latent one decoded before and encoded after it
     abbrev pub IsDecodedByLatent : Symbol → (full rest : Content) → Type 0

@@ -1,6 +1,5 @@
 -- What a range decoder holds, and what a symbol does to it.
-use Rattle.std.specs.Prelude.{◌≡◌, ℕ, ◌+◌, ◌-◌, ◌*◌, ◌/◌, ◌^◌, ◌<◌, ◌≤◌, ◌⊎◌, List, [], Contains, Option, Some, None, Result, Ok, Err, IfOk, IfErr, OnErr, length}
-use Rattle.constriction_model.specs.Coding.{InTurn}
+use Rattle.std.specs.Prelude.{◌≡◌, ℕ, ◌+◌, ◌-◌, ◌*◌, ◌/◌, ◌^◌, ◌<◌, ◌≤◌, ◌⊎◌, List, Contains, Option, Some, None, Result, Ok, Err, IfErr, OnErr, OnOk}
 use Rattle.constriction_words.specs.declared.CoderError.{CoderError}
 use Rattle.constriction_words.specs.declared.CoderError.TheVariants.{Frontend, Backend}
 use Rattle.constriction_model.specs.Model.{RowMayBeRefused}
@@ -84,17 +83,11 @@ IsReadingFault MayRefuse rows gives precision (Frontend OutOfMemory) at left =
     ((quantile : ℕ) × HoldsPoint precision quantile 1 at.held × RowMayBeRefused MayRefuse rows quantile) × (left ≡ at.source)
 IsReadingFault MayRefuse rows gives precision (Backend error) at left = gives at.source (Err error) left
 
-module _ {Symbol S E : Type 0} (Stands : Symbol → Symbol → Type 0) (MayRefuse : Symbol → Type 0) (rows : List (Row Symbol))
-    (gives : S → Result (Option ℕ) E → S → Type 0) (precision : ℕ) where
-  -- what decoding a symbol answers and leaves
-  pub record Decodes (old : Held S) (answer : Result Symbol (CoderError DecoderFrontendError E)) (new : Held S) : Type 0 where
-    pub ok : IfOk answer (λ symbol. IsRead Stands rows gives precision symbol old new)
-    pub fault : IfErr answer (λ error. IsReadingFault MayRefuse rows gives precision error old new.source)
-    pub same : OnErr answer (new.held ≡ old.held)
-
-  -- fewer than `count` symbols were decoded, and the next one was not; or none was, because memory for all of them was refused
-  pub record ReadingStops (count : ℕ) (error : CoderError DecoderFrontendError E) (old new : Held S) : Type 0 where
-    pub done : List Symbol
-    pub reached : Held S
-    pub led : InTurn (IsRead Stands rows gives precision) done old reached
-    pub why : ((length done < count) × Decodes reached (Err error) new) ⊎ ((done ≡ []) × (error ≡ Frontend OutOfMemory) × (new ≡ reached))
+-- What a decoder says of decoding a symbol, beside the symbol: if it is decoded, the point lies in the interval; why it is not, and that
+-- this leaves the interval with the point.
+pub record DecodesFromQueue {Symbol S E : Type 0} (MayRefuse : Symbol → Type 0) (rows : List (Row Symbol))
+    (gives : S → Result (Option ℕ) E → S → Type 0) (precision : ℕ) (old : Held S)
+    (answer : Result Symbol (CoderError DecoderFrontendError E)) (new : Held S) : Type 0 where
+  pub inside : OnOk answer (new.held.offset < new.held.range)
+  pub fault : IfErr answer (λ error. IsReadingFault MayRefuse rows gives precision error old new.source)
+  pub same : OnErr answer (new.held ≡ old.held)

@@ -12,13 +12,13 @@ use Rattle.constriction_coders.specs.Steps.{Content, content, MayBeHeld, IsEncod
 
 -- symbols were encoded onto `old`, the last one first, and P holds of the content that this led to
 abbrev pub EncodesThen : {Symbol : Type 0} → (Symbol → Option (ℕ × ℕ)) → ℕ → List Symbol → Content → (Content → Type 0) → Type 0
-EncodesThen entry precision symbols old P = (full : Content) × InTurn (IsEncoded entry precision) symbols full old × P full
+EncodesThen entry precision symbols old P = (full : Content) × InTurn (λ s. IsEncoded (entry s) precision) symbols full old × P full
 
 -- Symbols are coded in their places, which have the entries and say how to decode. By one model, a symbol is its own place.
 pub record StackComesBack {Symbol Place : Type 0} (places : List Symbol → List Place) (entry : Place → Option (ℕ × ℕ)) (precision : ℕ)
     (Decodes : Place → Content → Content → Type 0) (Back : Symbol → Symbol → Type 0) : Type 0 where
   -- as many symbols come back as were encoded, and what was under them is left
-  pub symbols : (symbols answers : List Symbol) (full rest under : Content) → InTurn (IsEncoded entry precision) (places symbols) full rest
+  pub symbols : (symbols answers : List Symbol) (full rest under : Content) → InTurn (λ s. IsEncoded (entry s) precision) (places symbols) full rest
       → InTurn Decodes (places answers) full under → length answers ≡ length symbols → AllZip Back symbols answers × (under ≡ rest)
   -- the same from their words: then nothing is left
   pub words : (symbols answers : List Symbol) (words : List ℕ) (opened left : Content) → IsStackOf entry precision (places symbols) words
@@ -38,7 +38,7 @@ module _ {Symbol Model Other : Type 0} (eq : Symbol → Symbol → Bool) (rows :
   pub record PairsComeBack (precision : ℕ) : Type 0 where
     -- as many symbols come back as were encoded, and what was under them is left
     pub symbols : (pairs : List (Symbol × Model)) (others : List (Symbol × Other)) (full rest under : Content)
-        → InTurn (IsEncoded (entry_by eq rows) precision) pairs full rest
+        → InTurn (λ s. IsEncoded (entry_by eq rows s) precision) pairs full rest
         → InTurn (λ other. IsDecoded Stands (other_rows other.1) precision other.0) others full under → HaveSameEntries pairs others
         → StandForPairs pairs others × (under ≡ rest)
     -- the same from their words: then nothing is left
@@ -51,8 +51,8 @@ module _ {Symbol : Type 0} (entry : Symbol → Option (ℕ × ℕ)) (precision :
   -- what follows for symbols that are encoded by these entries
   pub record EncodedOnce : Type 0 where
     -- a symbol is encoded onto a content in one way, if a coder may hold the result
-    pub symbol : (symbol : Symbol) (a b rest : Content) → MayBeHeld a → MayBeHeld b → IsEncoded entry precision symbol a rest
-        → IsEncoded entry precision symbol b rest → a ≡ b
+    pub symbol : (symbol : Symbol) (a b rest : Content) → MayBeHeld a → MayBeHeld b → IsEncoded (entry symbol) precision a rest
+        → IsEncoded (entry symbol) precision b rest → a ≡ b
     -- symbols have one list of words
     pub words : (symbols : List Symbol) (words others : List ℕ) → IsStackOf entry precision symbols words
         → IsStackOf entry precision symbols others → words ≡ others
@@ -63,7 +63,7 @@ module _ {Symbol : Type 0} (entry : Symbol → Option (ℕ × ℕ)) (precision :
     -- what follows for symbols that are then decoded by these rows, if these have the same entries
     pub record SymbolsComeBack (eq : Symbol → Symbol → Bool) : Type 0 where
       -- what is decoded after a symbol was encoded stands for an equal one, and what was under it is left
-      pub symbol : (symbol answer : Symbol) (full rest under : Content) → IsEncoded entry precision symbol full rest
+      pub symbol : (symbol answer : Symbol) (full rest under : Content) → IsEncoded (entry symbol) precision full rest
           → IsDecoded Stands rows precision answer full under → StandsForEqual Stands eq symbol answer × (under ≡ rest)
       pub all : StackComesBack (λ ss. ss) entry precision (IsDecoded Stands rows precision) (StandsForEqual Stands eq)
       -- two lists of as many symbols with the same words have equal symbols
@@ -76,7 +76,7 @@ module _ {Symbol : Type 0} (entry : Symbol → Option (ℕ × ℕ)) (precision :
       pub known : (symbol : Symbol) (full rest : Content) → IsDecoded Stands rows precision symbol full rest → entry symbol ≢ None
       -- if it is encoded again, the content is the one that it was decoded from
       pub back : (symbol : Symbol) (full rest again : Content) → MayBeHeld full → MayBeHeld again
-          → IsDecoded Stands rows precision symbol full rest → IsEncoded entry precision symbol again rest → again ≡ full
+          → IsDecoded Stands rows precision symbol full rest → IsEncoded (entry symbol) precision again rest → again ≡ full
       -- words from which symbols are decoded until nothing is left are the words of these symbols
       pub words : (symbols : List Symbol) (words : List ℕ) (opened : Content) → IsCompressed opened words
           → InTurn (IsDecoded Stands rows precision) symbols opened (content 0 []) → IsStackOf entry precision symbols words

@@ -3,7 +3,9 @@ pub mod BitsBack
 pub mod Bytes
 pub mod Compressed
 pub mod Counts
+pub mod Decoding
 pub mod EncodedWords
+pub mod Encoding
 pub mod Intervals
 pub mod Laws
 pub mod Numbers

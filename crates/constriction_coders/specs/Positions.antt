@@ -16,5 +16,5 @@ SeeksPlace there old place r new =
 abbrev pub PlaceComesBack : {Symbol : Type 0} → (Symbol → Option (ℕ × ℕ)) → ℕ → Type 0
 PlaceComesBack {Symbol} entry precision =
     (symbols : List Symbol) (noted full old new : Content) (more there : List ℕ) (r : Result (Unit {0}) (Unit {0})) → MayBeHeld noted
-    → InTurn (IsEncoded entry precision) symbols full noted → there ≡ full.words ++ more
+    → InTurn (λ s. IsEncoded (entry s) precision) symbols full noted → there ≡ full.words ++ more
     → SeeksPlace there old (length noted.words, noted.state) r new → IsOk r × (new ≡ noted)

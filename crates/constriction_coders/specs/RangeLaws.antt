@@ -30,7 +30,7 @@ module _ {Symbol Place S : Type 0} (places : List Symbol → List Place) (entry 
   -- symbols were encoded from a span on, and a decoder of their words that was at this span decoded no more symbols than there are
   pub record IsDecodedFrom (first last : Span) (symbols answers : List Symbol) (words : List ℕ) (now : Held S) : Type 0 where
     pub reached : IsReached first
-    pub encoded : InTurn (IsNarrowed entry precision) (places symbols) first last
+    pub encoded : InTurn (λ s. IsNarrowed (entry s) precision) (places symbols) first last
     pub message : LeadTo last words
     pub start : Held S
     pub begun : IsAt tells first words start
@@ -42,7 +42,7 @@ module _ {Symbol Place S : Type 0} (places : List Symbol → List Place) (entry 
   pub record FollowsEncoder (Back : Symbol → Symbol → Type 0) (first last : Span) (symbols answers : List Symbol) (words : List ℕ)
       (now : Held S) : Type 0 where
     pub back : AllZip Back (take (length answers) symbols) answers
-    pub follows : (s : Span) × InTurn (IsNarrowed entry precision) (places (take (length answers) symbols)) first s × IsAt tells s words now
+    pub follows : (s : Span) × InTurn (λ s. IsNarrowed (entry s) precision) (places (take (length answers) symbols)) first s × IsAt tells s words now
     pub valid : length answers < length symbols → ¬ (IsAboveAll precision now.held)
     pub ends : (message more : List ℕ) → IsSealed last message → words ≡ message ++ more → length answers ≡ length symbols
         → MayBeAtEnd now.held
@@ -61,8 +61,8 @@ abbrev pub RangePairsComeBack : {Symbol Model Other S E : Type 0} → (Symbol �
     → (precision : ℕ) → Type 0
 RangePairsComeBack {Symbol} {Model} {Other} {S} eq rows Stands other_rows gives tells precision =
     (pairs after : List (Symbol × Model)) (others : List (Symbol × Other)) (first mid last : Span) (words : List ℕ) (start now : Held S)
-    → IsReached first → InTurn (IsNarrowed (entry_by eq rows) precision) pairs first mid
-    → InTurn (IsNarrowed (entry_by eq rows) precision) after mid last → LeadTo last words → IsAt tells first words start
+    → IsReached first → InTurn (λ s. IsNarrowed (entry_by eq rows s) precision) pairs first mid
+    → InTurn (λ s. IsNarrowed (entry_by eq rows s) precision) after mid last → LeadTo last words → IsAt tells first words start
     → InTurn (λ other. IsRead Stands (other_rows other.1) gives precision other.0) others start now
     → HaveSameEntries eq rows Stands other_rows pairs others
     → StandForPairs eq rows Stands other_rows pairs others × IsAt tells mid words now
@@ -74,12 +74,12 @@ pub record RangeSymbolsComeBack {Symbol S E : Type 0} (Stands : Symbol → Symbo
     (tells : S → List ℕ → Type 0) (precision : ℕ) : Type 0 where
   -- a number in the span after a symbol is in the span before it
   pub before : (symbol : Symbol) (old new : Span) (words : List ℕ) → All (λ w. w < 2 ^ 32) words
-      → IsNarrowed entry precision symbol old new → LiesIn new words → LiesIn old words
+      → IsNarrowed (entry symbol) precision old new → LiesIn new words → LiesIn old words
   -- a symbol does not lead to the span of no symbol
-  pub leaves : (symbol : Symbol) (old new : Span) → IsNarrowed entry precision symbol old new → old.size < 2 ^ 64 → new.size < 2 ^ 64 - 1
+  pub leaves : (symbol : Symbol) (old new : Span) → IsNarrowed (entry symbol) precision old new → old.size < 2 ^ 64 → new.size < 2 ^ 64 - 1
   -- If a decoder is at the span before a symbol, and the number of its words is in the span after it, what it decodes stands for the
   -- symbol, and then it is at the span after it.
   pub symbol : (symbol answer : Symbol) (old new : Span) (words : List ℕ) (now later : Held S) → All (λ w. w < 2 ^ 32) words
-      → IsNarrowed entry precision symbol old new → LiesIn new words → IsAt tells old words now
+      → IsNarrowed (entry symbol) precision old new → LiesIn new words → IsAt tells old words now
       → IsRead Stands rows gives precision answer now later → StandsForEqual Stands eq symbol answer × IsAt tells new words later
   pub symbols : RangeMessageComesBack (λ ss. ss) entry precision (IsRead Stands rows gives precision) tells (StandsForEqual Stands eq)

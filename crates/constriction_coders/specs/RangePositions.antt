@@ -39,5 +39,5 @@ SeeksSpan tells words old place r new =
 abbrev pub RangePlaceComesBack : {Symbol S : Type 0} → (Symbol → Option (ℕ × ℕ)) → ℕ → (S → List ℕ → Type 0) → Type 0
 RangePlaceComesBack {Symbol} {S} entry precision tells =
     (symbols : List Symbol) (noted last : Span) (words more there : List ℕ) (old new : Held S) (r : Result (Unit {0}) (Unit {0}))
-    → IsReached noted → InTurn (IsNarrowed entry precision) symbols noted last → IsSealed last words → All (λ w. w < 2 ^ 32) more
+    → IsReached noted → InTurn (λ s. IsNarrowed (entry s) precision) symbols noted last → IsSealed last words → All (λ w. w < 2 ^ 32) more
     → there ≡ words ++ more → SeeksSpan tells there old (place_of noted) r new → IsOk r × IsAt tells noted there new

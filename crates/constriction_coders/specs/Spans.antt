@@ -1,5 +1,5 @@
 -- What a range encoder holds, what a symbol does to it, and the words of a message.
-use Rattle.std.specs.Prelude.{◌≡◌, ◌≢◌, ℕ, ◌+◌, ◌-◌, ◌*◌, ◌^◌, ◌<◌, ◌≤◌, ◌⊎◌, List, [], ◌∷◌, ◌++◌, All, length, Option, Some, None}
+use Rattle.std.specs.Prelude.{◌≡◌, ◌≢◌, ℕ, ◌+◌, ◌-◌, ◌*◌, ◌^◌, ◌<◌, ◌≤◌, ◌⊎◌, List, [], All, length, Option, Some, None}
 use Rattle.constriction_model.specs.Coding.{InTurn}
 use Rattle.constriction_words.specs.declared.CoderError.{CoderError}
 use Rattle.constriction_words.specs.declared.CoderError.TheVariants.{Frontend, Backend}
@@ -33,12 +33,11 @@ IsWidened s new =
     ((2 ^ 32 ≤ s.size) × (new ≡ s))
     ⊎ ((s.size < 2 ^ 32) × (new ≡ span (s.low * 2 ^ 32) (s.size * 2 ^ 32) (s.written + 1)))
 
--- a symbol leaves the part of its entry, with a word more if it is small
-pub record IsNarrowed {Symbol : Type 0} (entry : Symbol → Option (ℕ × ℕ)) (precision : ℕ) (symbol : Symbol) (old new : Span)
-    : Type 0 where
+-- a symbol of this entry leaves the part of it, with a word more if that is small
+pub record IsNarrowed (entry : Option (ℕ × ℕ)) (precision : ℕ) (old new : Span) : Type 0 where
   pub left : ℕ
   pub weight : ℕ
-  pub known : entry symbol ≡ Some (left, weight)
+  pub known : entry ≡ Some (left, weight)
   pub within : left + weight ≤ 2 ^ precision
   pub next : IsWidened (part_in precision left weight old) new
 
@@ -49,22 +48,11 @@ pub record IsReached (s : Span) : Type 0 where
   pub within : s.low + s.size < 2 ^ (32 * (s.written + 2))
   pub begun : s.size ≡ 2 ^ 64 - 1 → s ≡ whole
 
--- this is why a symbol was not encoded
-abbrev pub IsNarrowingFault : {Symbol Fault E : Type 0} → (Symbol → Option (ℕ × ℕ)) → (precision : ℕ) → CoderError Fault E → Symbol
-    → Span → Type 0
-IsNarrowingFault entry precision (Frontend fault) symbol s = entry symbol ≡ None
-IsNarrowingFault entry precision (Backend error) symbol s =
-    (left weight : ℕ) × (entry symbol ≡ Some (left, weight)) × (unit_of precision s.size * weight < 2 ^ 32)
-
--- the symbols before one were encoded, and that one was not
-pub record NarrowingStops {Symbol Fault E : Type 0} (entry : Symbol → Option (ℕ × ℕ)) (precision : ℕ) (symbols : List Symbol)
-    (error : CoderError Fault E) (old new : Span) : Type 0 where
-  pub done : List Symbol
-  pub symbol : Symbol
-  pub after : List Symbol
-  pub split : symbols ≡ done ++ symbol ∷ after
-  pub led : InTurn (IsNarrowed entry precision) done old new
-  pub why : IsNarrowingFault entry precision error symbol new
+-- this is why a symbol of this entry was not encoded
+abbrev pub IsNarrowingFault : {Fault E : Type 0} → Option (ℕ × ℕ) → (precision : ℕ) → CoderError Fault E → Span → Type 0
+IsNarrowingFault entry precision (Frontend fault) s = entry ≡ None
+IsNarrowingFault entry precision (Backend error) s =
+    (left weight : ℕ) × (entry ≡ Some (left, weight)) × (unit_of precision s.size * weight < 2 ^ 32)
 
 -- the first words, as many as a number of the span has, are a number of the span
 abbrev pub LiesIn : Span → List ℕ → Type 0
@@ -92,4 +80,5 @@ IsSealed s words = ((s ≡ whole) × (words ≡ [])) ⊎ ((s ≢ whole) × IsPoi
 
 -- these are the words of these symbols
 abbrev pub IsMessageOf : {Symbol : Type 0} → (Symbol → Option (ℕ × ℕ)) → (precision : ℕ) → List Symbol → List ℕ → Type 0
-IsMessageOf entry precision symbols words = (last : Span) × InTurn (IsNarrowed entry precision) symbols whole last × IsSealed last words
+IsMessageOf entry precision symbols words =
+    (last : Span) × InTurn (λ s. IsNarrowed (entry s) precision) symbols whole last × IsSealed last words

@@ -8,5 +8,5 @@ use Rattle.constriction_coders.specs.Steps.{Content, content, IsEncoded}
 pub record IsStackOf {Symbol : Type 0} (entry : Symbol → Option (ℕ × ℕ)) (precision : ℕ) (symbols : List Symbol) (words : List ℕ)
     : Type 0 where
   pub full : Content
-  pub led : InTurn (IsEncoded entry precision) symbols full (content 0 [])
+  pub led : InTurn (λ s. IsEncoded (entry s) precision) symbols full (content 0 [])
   pub compressed : IsCompressed full words

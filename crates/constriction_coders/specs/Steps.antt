@@ -36,12 +36,11 @@ pub record IsOnTop (precision left weight : ℕ) (full rest : Content) : Type 0 
   pub within : left + weight ≤ 2 ^ precision
   pub under : Refills (taken precision left weight full.state) full.words rest
 
--- `full` has the symbol on top of `rest`, by the entry of that symbol
-pub record IsEncoded {Symbol : Type 0} (entry : Symbol → Option (ℕ × ℕ)) (precision : ℕ) (symbol : Symbol) (full rest : Content)
-    : Type 0 where
+-- `full` has a symbol on top of `rest` that has this entry
+pub record IsEncoded (entry : Option (ℕ × ℕ)) (precision : ℕ) (full rest : Content) : Type 0 where
   pub left : ℕ
   pub weight : ℕ
-  pub known : entry symbol ≡ Some (left, weight)
+  pub known : entry ≡ Some (left, weight)
   pub top : IsOnTop precision left weight full rest
 
 -- `full` has on top of `rest` the row that these rows have for its quantile, and the symbol stands for that of the row

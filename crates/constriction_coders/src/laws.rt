@@ -2,9 +2,11 @@
 
 use thiserror::Error;
 
+mod any;
 mod queue;
 mod stack;
 
+pub use self::any::ComesBack;
 pub use self::queue::{
     message_comes_back, message_from, message_of, one_message, published_message,
     range_pairs_come_back, range_place_comes_back, range_places_come_back, range_symbols_come_back,
@@ -12,8 +14,8 @@ pub use self::queue::{
 };
 pub use self::stack::{
     back_and_there, binary_comes_back, bits_come_back, compressed_comes_back, compressed_once,
-    decoded_goes_back, encoded_once, may_be_held, pairs_come_back, places_come_back,
-    symbols_come_back, there_and_back,
+    decoded_goes_back, encoded_in_turn, encoded_once, may_be_held, pairs_come_back,
+    places_come_back, symbols_come_back, there_and_back,
 };
 
 /// Why a message did not come back.

@@ -46,7 +46,7 @@ under-first c all (inr (inr x)) = (_, x.1)
 -- symbols were encoded since a place was noted, and a seek over the words of the coder goes to the place
 pub place-back : {Symbol : Type 0} (entry : Symbol → Option (ℕ × ℕ)) (precision : ℕ) → PlaceComesBack entry precision
     → (symbols : List Symbol) (noted full old new : Content) (words there : List ℕ) (r : Result (Unit {0}) (Unit {0})) → MayBeHeld noted
-    → InTurn (IsEncoded entry precision) symbols full noted → IsCompressed full words → there ≡ words
+    → InTurn (λ s. IsEncoded (entry s) precision) symbols full noted → IsCompressed full words → there ≡ words
     → SeeksPlace there old (length noted.words, noted.state) r new → IsOk r × (new ≡ noted)
 place-back entry precision law symbols noted full old new words there r held led compressed same seeks =
     let under = under-first full words compressed.words in

@@ -14,14 +14,14 @@ module _ {A B S E : Type 0} (Stands : A → A → Type 0) (eq : A → A → Bool
     (law : RangeSymbolsComeBack Stands eq entry rows gives tells precision)
     (other_law : RangeSymbolsComeBack OtherStands other_eq other_entry other_rows gives tells other_precision)
     (symbol answer : A) (other other_answer : B) (old mid last : Span) (words : List ℕ) (start middle end : Held S)
-    (new : old ≡ whole) (first : IsNarrowed entry precision symbol old mid)
-    (second : IsNarrowed other_entry other_precision other mid last) (sealed : IsSealed last words)
+    (new : old ≡ whole) (first : IsNarrowed (entry symbol) precision old mid)
+    (second : IsNarrowed (other_entry other) other_precision mid last) (sealed : IsSealed last words)
     (starts : IsAt tells whole (words ++ []) start)
     (read : IsRead Stands rows gives precision answer start middle)
     (read_on : IsRead OtherStands other_rows gives other_precision other_answer middle end) where
   pub two-back : StandsForEqual Stands eq symbol answer × StandsForEqual OtherStands other_eq other other_answer
   two-back =
-      let begun : IsNarrowed entry precision symbol whole mid = rw new at first in
+      let begun : IsNarrowed (entry symbol) precision whole mid = rw new at first in
       let less : mid.size < 2 ^ 64 - 1 = law.leaves symbol whole mid begun (omega arith) in
       let fewer : last.size < 2 ^ 64 - 1 = other_law.leaves other mid last second (omega (arith, less)) in
       let message = sealed-tell last words [] sealed (All-nil (λ (w : ℕ). w < 2 ^ 32)) in

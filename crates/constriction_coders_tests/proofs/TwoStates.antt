@@ -31,13 +31,13 @@ module _ {Symbol S E : Type 0} (Stands : Symbol → Symbol → Type 0) (eq : Sym
 
   module _ (law : RangeMessageComesBack (placed after_first true) (entry_at entry) precision Reads tells (StandsForEqual Stands eq))
       (symbol answer other other_answer : Symbol) (old mid last : Span) (words : List ℕ) (start middle end : Held S) (new : old ≡ whole)
-      (first : IsNarrowed (entry_of eq rows) precision symbol old mid) (second : IsNarrowed (entry_of eq others) precision other mid last)
+      (first : IsNarrowed (entry_of eq rows symbol) precision old mid) (second : IsNarrowed (entry_of eq others other) precision mid last)
       (sealed : IsSealed last words) (starts : IsAt tells whole (words ++ []) start)
       (read : IsRead Stands rows gives precision answer start middle)
       (read_on : IsRead Stands others gives precision other_answer middle end) where
     pub two-back : StandsForEqual Stands eq symbol answer × StandsForEqual Stands eq other other_answer
     two-back =
-        let e : IsNarrowed (entry_of eq rows) precision symbol whole mid = rw new at first in
+        let e : IsNarrowed (entry_of eq rows symbol) precision whole mid = rw new at first in
         let back = came-back (placed after_first true) (entry_at entry) precision Reads tells (StandsForEqual Stands eq) law start 2
         (answer ∷ other_answer ∷ []) end (
           middle,

@@ -21,6 +21,7 @@ use constriction::stream::model::{
 use constriction::{CoderError, DefaultEncoderFrontendError};
 use constriction_coders::laws::{compressed_comes_back, symbols_come_back, there_and_back};
 use constriction_coders::stack::AnsCoder;
+use constriction_coders::{Decode, decode_iid_symbols};
 use std::alloc::{AllocError, Global};
 
 /// A decoder of texts over 24 bits of `u32`.
@@ -61,7 +62,7 @@ where
         Ok(()) => {}
         Err(_) => return None,
     }
-    match coder.decode_iid_vec::<M, PRECISION>(alloc, symbols.len(), model) {
+    match coder.decode_iid_vec::<M>(alloc, symbols.len(), model) {
         Ok(answers) => Some(answers),
         Err(_) => None,
     }
@@ -116,7 +117,7 @@ where
         (held_by coder.old) (held_by coder.new)) }
 {
     let mut symbols = Vec::new(alloc);
-    for answer in coder.decode_iid_symbols::<D, PRECISION>(count, model) {
+    for answer in decode_iid_symbols::<_, D, PRECISION>(coder, count, model) {
         match answer {
             Ok(symbol) => match symbols.push(symbol) {
                 Ok(()) => {}
@@ -142,7 +143,7 @@ where
     requires can_next_back { I.can_next_back symbols }
     requires ends { IsFinite (I.remaining symbols) }
     ensures { OnOk result ((rest : I → List E.Symbol) → ((s : I) (answer : Option E.Symbol) (t : I) → I.next_back_gives s answer t
-        → YieldsLast rest s answer t) → InTurn (IsEncoded (entry_of E.symbol_eq (E.rows model.now)) PRECISION) (rest symbols)
+        → YieldsLast rest s answer t) → InTurn (λ s. IsEncoded (entry_of E.symbol_eq (E.rows model.now) s) PRECISION) (rest symbols)
         (held_by coder.new) (held_by coder.old)) }
 {
     coder.encode_iid_symbols_reverse::<E, I, PRECISION>(symbols, model)

@@ -15,6 +15,7 @@ use constriction::stream::model::{
     NonContiguousCategoricalDecoderModel, UniformModel,
 };
 use constriction_coders::stack::AnsCoder;
+use constriction_coders::{Decode, Encode};
 use constriction_stored_weights::model_comes_back;
 use std::alloc::{AllocError, Global};
 use std::process::Abort;

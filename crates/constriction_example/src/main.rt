@@ -3,6 +3,7 @@
 
 use constriction::stream::model::ContiguousCategoricalEntropyModel;
 use constriction_coders::stack::AnsCoder;
+use constriction_coders::Decode;
 
 /// Weights that add up to `2^12`.
 type Model = ContiguousCategoricalEntropyModel<u32, Vec<u32>, 12>;

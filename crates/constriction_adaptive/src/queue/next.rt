@@ -10,6 +10,7 @@ ghost use Rattle.constriction_adaptive.specs.Predicted.{entry_in, IsEncodingFaul
 use crate::error::EncoderFrontendError;
 use crate::predictor::Predictor;
 use constriction_backends::ReadWords;
+use constriction_coders::{Decode, Encode};
 use constriction_coders::queue::{DecoderFrontendError, RangeDecoder, RangeEncoder};
 use constriction_words::{CoderError, Queue};
 use std::alloc::AllocError;
@@ -25,8 +26,7 @@ pub fn encode_next<P, const PRECISION: usize>(
 ) -> Result<(), CoderError<EncoderFrontendError, AllocError>>
 where
     P: Predictor<PRECISION>,
-    ensures ok { OnOk result (IsNarrowed (entry_at (entry_in P.rows P.Model.symbol_eq)) PRECISION (P.state predictor.old, symbol.now)
-        encoder.old encoder.new) }
+    ensures ok { OnOk result (IsNarrowed (entry_at (entry_in P.rows P.Model.symbol_eq) (P.state predictor.old, symbol.now)) PRECISION encoder.old encoder.new) }
     ensures learned { OnOk result (P.state predictor.new ≡ P.next (P.state predictor.old) symbol.now) }
     ensures tile { OnOk result (RowsTile 32 PRECISION (P.rows (P.state predictor.old))) }
     ensures fault { IfErr result (λ error. IsEncodingFault (entry_at (entry_in P.rows P.Model.symbol_eq)) PRECISION error

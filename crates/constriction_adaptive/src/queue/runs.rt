@@ -24,10 +24,10 @@ pub fn encode_adaptively<P, const PRECISION: usize>(
 ) -> Result<(), CoderError<EncoderFrontendError, AllocError>>
 where
     P: Predictor<PRECISION>,
-    ensures ok { OnOk result (AreCoded P.next (IsNarrowed (entry_at (entry_in P.rows P.Model.symbol_eq)) PRECISION) symbols.now
+    ensures ok { OnOk result (AreCoded P.next (λ s. IsNarrowed (entry_at (entry_in P.rows P.Model.symbol_eq) s) PRECISION) symbols.now
         (P.state predictor.old) encoder.old (P.state predictor.new) encoder.new) }
     ensures tile { OnOk result (AllTile P.rows P.next PRECISION (P.state predictor.old) symbols.now) }
-    ensures err { IfErr result (λ error. EncodingStops P.next (IsNarrowed (entry_at (entry_in P.rows P.Model.symbol_eq)) PRECISION)
+    ensures err { IfErr result (λ error. EncodingStops P.next (λ s. IsNarrowed (entry_at (entry_in P.rows P.Model.symbol_eq) s) PRECISION)
         (IsEncodingFault (entry_at (entry_in P.rows P.Model.symbol_eq)) PRECISION error) symbols.now
         (P.state predictor.old) encoder.old (P.state predictor.new) encoder.new) }
 {

@@ -7,6 +7,7 @@ ghost use Rattle.constriction_adaptive.specs.Predicted.{IsTakenIn};
 
 use crate::predictor::Predictor;
 use constriction_backends::StackSource;
+use constriction_coders::Decode;
 use constriction_coders::stack::AnsCoder;
 use constriction_words::CoderError;
 use std::alloc::AllocError;

@@ -51,7 +51,7 @@ module _ {Symbol : Type 0} (eq : Symbol → Symbol → Bool) (entry : Symbol →
     (rows : List (Row Symbol)) (precision bits : ℕ) (tile : RowsTile bits precision rows) (laws : IsEquivalence eq)
     (alike : (s : Symbol) → entry s ≡ entry_of eq rows s) where
   -- two symbols on top of one content are equal, and have the same under them
-  one-top : (s t : Symbol) (full a b : Content) → IsEncoded entry precision s full a → IsEncoded entry precision t full b
+  one-top : (s t : Symbol) (full a b : Content) → IsEncoded (entry s) precision full a → IsEncoded (entry t) precision full b
       → (eq s t ≡ true) × (a ≡ b)
   one-top s t full a b p q =
       let quantile : ℕ = full.state % 2 ^ precision in
@@ -64,8 +64,8 @@ module _ {Symbol : Type 0} (eq : Symbol → Symbol → Bool) (entry : Symbol →
         refills-once (taken precision p.left p.weight full.state) full.words a b p.top.under (rw (left, weight) at q.top.under),
       )
 
-  one-run : (symbols others : List Symbol) (full last : Content) → InTurn (IsEncoded entry precision) symbols full last
-      → InTurn (IsEncoded entry precision) others full last → length symbols ≡ length others
+  one-run : (symbols others : List Symbol) (full last : Content) → InTurn (λ s. IsEncoded (entry s) precision) symbols full last
+      → InTurn (λ s. IsEncoded (entry s) precision) others full last → length symbols ≡ length others
       → AllZip (λ s t. IsTrue (eq s t)) symbols others
   one-run [] [] full last p q n = tt
   one-run [] (t ∷ ts) full last p q n = absurd (omega arith)
@@ -73,7 +73,7 @@ module _ {Symbol : Type 0} (eq : Symbol → Symbol → Bool) (entry : Symbol →
   one-run (s ∷ ss) (t ∷ ts) full last p q n =
       let top = one-top s t full p.0 q.0 p.1 q.1 in (
         top.0,
-        one-run ss ts q.0 last (subst (λ (c : Content). InTurn (IsEncoded entry precision) ss c last) top.1 p.2) q.2
+        one-run ss ts q.0 last (subst (λ (c : Content). InTurn (λ s. IsEncoded (entry s) precision) ss c last) top.1 p.2) q.2
             (omega arith),
       )
 
@@ -83,7 +83,7 @@ module _ {Symbol : Type 0} (eq : Symbol → Symbol → Bool) (entry : Symbol →
   symbols-once symbols others words p q many =
       let same : q.full ≡ p.full = compressed-once q.full p.full words q.compressed p.compressed in
       one-run symbols others p.full (content 0 []) p.led
-      (subst (λ (c : Content). InTurn (IsEncoded entry precision) others c (content 0 [])) same q.led) many
+      (subst (λ (c : Content). InTurn (λ s. IsEncoded (entry s) precision) others c (content 0 [])) same q.led) many
 
 -- words are those of one list of a given number of numbers, by weights that are accepted
 pub numbers-once : (precision : ℕ) (weights numbers others words : List ℕ) → IsAccepted 32 precision weights
@@ -98,7 +98,7 @@ numbers-once precision ws numbers others words accepted p q many =
 
 -- a symbol adds at most one word
 led-words : {Symbol : Type 0} (entry : Symbol → Option (ℕ × ℕ)) (precision : ℕ) (symbols : List Symbol) (full last : Content)
-    → InTurn (IsEncoded entry precision) symbols full last → length full.words ≤ length symbols + length last.words
+    → InTurn (λ s. IsEncoded (entry s) precision) symbols full last → length full.words ≤ length symbols + length last.words
 led-words entry precision [] full last h = omega (arith, ap (λ (c : Content). length c.words) h)
 led-words entry precision (s ∷ ss) full last h =
     let others = led-words entry precision ss h.0 last h.2 in

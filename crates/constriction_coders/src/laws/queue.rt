@@ -13,6 +13,8 @@ ghost use Rattle.constriction_model.specs.Model.{ClonesAreEqual};
 ghost use Rattle.constriction_model.specs.Entries.{SameEntries};
 ghost use Rattle.constriction_model.specs.Rows.{Row, entry_of};
 
+use crate::decode::Decode;
+use crate::encode::Encode;
 use crate::laws::MessageError;
 use crate::queue::{DecoderFrontendError, RangeDecoder, RangeEncoder};
 use constriction_backends::{Cursor, ReadWords};

@@ -1,20 +1,26 @@
 //! What comes back from a stack coder, each law the contract of a function.
 
 ghost use Rattle.std.specs.Prelude.{◌≡◌, ◌≢◌, ◌*◌, ◌%◌, ◌≤◌, ℕ, Bool, List, [], Option, Ok, Err, IsTrue, length, reverse, IfOk, OnOk};
+ghost use Rattle.std.specs.Allocator.{alloc_error};
 ghost use Rattle.std.specs.Fn.{FnReturnsAt};
 ghost use Rattle.std.specs.List.{AllZip};
-ghost use Rattle.constriction_coders.specs.AnsCoder.{held_by, EncodingStops, DecodingStops, ReadsNoState, WritesState};
+ghost use Rattle.constriction_coders.specs.AnsCoder.{held_by, ReadsNoState, WritesState};
 ghost use Rattle.constriction_coders.specs.BitsBack.{FitTogether, BitsComeBack};
 ghost use Rattle.constriction_coders.specs.Compressed.{IsCompressed, IsBinary, HasValidBits};
+ghost use Rattle.constriction_coders.specs.Decoding.{DecodingStops};
+ghost use Rattle.constriction_coders.specs.Encoding.{EncodingStops};
 ghost use Rattle.constriction_coders.specs.Laws.{SymbolsComeBack, PairsComeBack, StackComesBack, EncodedOnce, EncodesThen, IsInvertible, DecodedGoesBack};
 ghost use Rattle.constriction_coders.specs.Places.{placed, entry_at, IsDecodedAt};
 ghost use Rattle.constriction_coders.specs.Positions.{PlaceComesBack};
-ghost use Rattle.constriction_coders.specs.Steps.{Content, content, MayBeHeld, IsDecoded};
+ghost use Rattle.constriction_coders.specs.Steps.{Content, content, MayBeHeld, IsEncoded, IsDecoded};
 ghost use Rattle.constriction_model.specs.Coding.{InTurn, StandsForEqual};
 ghost use Rattle.constriction_model.specs.Model.{ClonesAreEqual};
 ghost use Rattle.constriction_model.specs.Entries.{SameEntries};
 ghost use Rattle.constriction_model.specs.Rows.{Row, entry_of};
 
+use crate::code::Code;
+use crate::decode::Decode;
+use crate::encode::Encode;
 use crate::laws::MessageError;
 use crate::stack::AnsCoder;
 use constriction_backends::{ReadWriteError, StackSource, WordStack};
@@ -56,6 +62,13 @@ pub fn encoded_once<Symbol, const PRECISION: usize>()
     requires { PRECISION ≤ 32 }
     ensures once { (entry : Symbol → Option (ℕ × ℕ)) → EncodedOnce entry PRECISION }
     ensures place { (entry : Symbol → Option (ℕ × ℕ)) → PlaceComesBack entry PRECISION }
+{}
+
+/// Symbols that were encoded in turn lie on the stack with the last one on top.
+pub fn encoded_in_turn<Symbol, const PRECISION: usize>()
+    ensures { (entry : Symbol → Option (ℕ × ℕ)) (symbols : List Symbol) (old full : Content)
+        → InTurn (λ s under over. IsEncoded (entry s) PRECISION over under) symbols old full
+        → InTurn (λ s. IsEncoded (entry s) PRECISION) (reverse symbols) full old }
 {}
 
 /// What a coder holds, it may hold. Other laws require this of each content.
@@ -122,13 +135,19 @@ where
         (held_by coder.new))) }
     ensures same { OnOk result (held_by coder.new ≡ held_by coder.old) }
     ensures encoding { (error : _) → result ≡ Err (MessageError.Encoding error)
-        → EncodingStops Backend.write_gives (entry_of E.symbol_eq (E.rows encoder.now)) PRECISION symbols.now error
-        (held_by coder.old) coder.new }
+        → EncodingStops ⟦<AnsCoder<Backend> as Code>⟧.held
+        ⟦<AnsCoder<Backend> as Encode<PRECISION>>⟧.is_encoded
+        ⟦<AnsCoder<Backend> as Encode<PRECISION>>⟧.encodes
+        (entry_of E.symbol_eq (E.rows encoder.now)) symbols.now error (held_by coder.old) coder.new }
     ensures decoding { (error : _) → result ≡ Err (MessageError.Decoding error)
         → EncodesThen (entry_of E.symbol_eq (E.rows encoder.now)) PRECISION (reverse symbols.now) (held_by coder.old)
-        (λ full. DecodingStops D.stands_for D.may_refuse (D.rows decoder.now) PRECISION (length symbols.now) error full coder.new) }
+        (λ full. DecodingStops ⟦<AnsCoder<Backend> as Code>⟧.held
+        (IsDecoded D.stands_for (D.rows decoder.now) PRECISION)
+        (⟦<AnsCoder<Backend> as Decode<PRECISION>>⟧.decodes D.Symbol D.may_refuse (D.rows decoder.now))
+        (λ error. error ≡ alloc_error) (length symbols.now) error full coder.new) }
 {
     symbols_come_back::<D, E, PRECISION>(decoder, encoder);
+    encoded_in_turn::<E::Symbol, PRECISION>();
     match coder.encode_iid_slice(symbols, encoder) {
         Ok(()) => {}
         Err(error) => return Err(MessageError::Encoding(error)),

@@ -1,17 +1,14 @@
 //! A range decoder: what was encoded first is decoded first.
 
-ghost use Rattle.std.specs.Prelude.{◌≡◌, ◌≢◌, ◌^◌, ◌<◌, ◌≤◌, [], ℕ, List, Ok, Err, IfOk, IfErr, OnOk, OnErr, IsTrue, length};
+ghost use Rattle.std.specs.Prelude.{◌≡◌, ◌≢◌, ◌^◌, ◌<◌, ◌≤◌, [], ℕ, List, Ok, Err, IfOk, IsTrue};
 ghost use Rattle.std.specs.Bool.{OnFalse};
-ghost use Rattle.constriction_coders.specs.Intervals.{word_or_zero, IsStart, IsRead, IsReadingFault, MayBeAtEnd, ReadingStops};
+ghost use Rattle.constriction_coders.specs.Intervals.{word_or_zero, IsStart, MayBeAtEnd};
 ghost use Rattle.constriction_coders.specs.RangeLaws.{IsAt};
 ghost use Rattle.constriction_coders.specs.Spans.{whole};
-ghost use Rattle.constriction_model.specs.Coding.{InTurn};
 
-use crate::queue::interval::{part_of, quantile_at, unit_of};
 use constriction_backends::ReadWords;
-use constriction_model::DecoderModel;
-use constriction_words::{CoderError, Queue};
-use std::alloc::Global;
+use constriction_words::Queue;
+use std::alloc::AllocError;
 use thiserror::Error;
 
 /// Why nothing was decoded.
@@ -22,6 +19,16 @@ pub enum DecoderFrontendError {
     InvalidData,
     #[error("Memory for the symbol was refused.")]
     OutOfMemory,
+}
+
+impl From<AllocError> for DecoderFrontendError {
+    ghost use Rattle.constriction_coders.specs.declared.queue.range_decoder.DecoderFrontendError.TheVariants.{OutOfMemory};
+
+    ghost from_gives = { λ _ error. error ≡ OutOfMemory };
+
+    fn from(_: AllocError) -> DecoderFrontendError {
+        DecoderFrontendError::OutOfMemory
+    }
 }
 
 /// A range decoder over words of 32 bits, in the format of the Rust crate's `DefaultRangeDecoder`.
@@ -39,7 +46,7 @@ pub struct RangeDecoder<Source: ReadWords<u32, Queue>> {
 
 /// The next word, or 0 if there is none.
 #[inline]
-fn next_or_zero<Source: ReadWords<u32, Queue>>(
+pub(crate) fn next_or_zero<Source: ReadWords<u32, Queue>>(
     source: &mut Source,
 ) -> Result<u32, Source::ReadError>
     requires { Source.can_read source.old }
@@ -94,89 +101,5 @@ impl<Source: ReadWords<u32, Queue>> RangeDecoder<Source> {
             → words ≢ []) }
     {
         (self.range == u64::MAX || self.offset < (1 << 33) - 1) && self.words.maybe_exhausted()
-    }
-
-    /// Decodes the next symbol. If all were decoded, it still decodes a symbol, or the data is invalid.
-    ///
-    /// It fails with `InvalidData` only if the point lies above all quantiles, with `OutOfMemory` only if the model may refuse the
-    /// row in which it lies, and with the backend's error only if a read answered that. An error leaves what is held, and only a
-    /// read that failed may change the source.
-    pub fn decode_symbol<D, const PRECISION: usize>(
-        &mut self,
-        model: &D,
-    ) -> Result<D::Symbol, CoderError<DecoderFrontendError, Source::ReadError>>
-    where
-        D: DecoderModel<PRECISION, Probability = u32>,
-        D::Symbol: Drop,
-        requires { Source.can_read self.old.words }
-        ensures goes_on { Source.can_read self.new.words }
-        ensures ok { IfOk result (λ symbol. IsRead D.stands_for (D.rows model.now) Source.read_gives PRECISION symbol (held_by self.old)
-            (held_by self.new)) }
-        ensures inside { OnOk result (let interval = (held_by self.new).held in interval.offset < interval.range) }
-        ensures fault { IfErr result (λ error. IsReadingFault D.may_refuse (D.rows model.now) Source.read_gives PRECISION error
-            (held_by self.old) self.new.words) }
-        ensures same { OnErr result ((held_by self.new).held ≡ (held_by self.old).held) }
-    {
-        let unit = unit_of::<PRECISION>(self.range);
-        let Some(quantile) = quantile_at::<PRECISION>(unit, self.offset) else {
-            return Err(CoderError::Frontend(DecoderFrontendError::InvalidData));
-        };
-        let Ok((symbol, left, weight)) = model.quantile_function(quantile) else {
-            return Err(CoderError::Frontend(DecoderFrontendError::OutOfMemory));
-        };
-        let (range, offset) = part_of::<PRECISION>(
-            self.range,
-            self.offset,
-            unit,
-            left,
-            weight.get(),
-            quantile,
-        );
-        if range >= 1 << 32 {
-            self.range = range;
-            self.offset = offset;
-            return Ok(symbol);
-        }
-        match next_or_zero(&mut self.words) {
-            Ok(word) => {
-                self.range = range << 32;
-                self.offset = (offset << 32) + word as u64;
-                Ok(symbol)
-            }
-            Err(error) => Err(CoderError::Backend(error)),
-        }
-    }
-
-    /// Decodes `count` symbols, the one that was encoded first first.
-    ///
-    /// Memory for all of them is asked for first. If `count` comes from outside, use
-    /// [`decode_iid_symbols`](Self::decode_iid_symbols), which asks for none.
-    pub fn decode_iid_vec<D, const PRECISION: usize>(
-        &mut self,
-        alloc: Global,
-        count: usize,
-        model: &D,
-    ) -> Result<Vec<D::Symbol>, CoderError<DecoderFrontendError, Source::ReadError>>
-    where
-        D: DecoderModel<PRECISION, Probability = u32>,
-        D::Symbol: Drop,
-        requires { Source.can_read self.old.words }
-        ensures goes_on { Source.can_read self.new.words }
-        ensures ok { IfOk result (λ symbols. InTurn (IsRead D.stands_for (D.rows model.now) Source.read_gives PRECISION) symbols.items
-            (held_by self.old) (held_by self.new)) }
-        ensures count { IfOk result (λ symbols. length symbols.items ≡ count) }
-        ensures err { IfErr result (λ error. ReadingStops D.stands_for D.may_refuse (D.rows model.now) Source.read_gives PRECISION count
-            error (held_by self.old) (held_by self.new)) }
-    {
-        let Ok(mut symbols) = Vec::with_capacity(alloc, count) else {
-            return Err(CoderError::Frontend(DecoderFrontendError::OutOfMemory));
-        };
-        for done in 0..count {
-            match self.decode_symbol(model) {
-                Ok(symbol) => symbols.push_reserved(symbol),
-                Err(error) => return Err(error),
-            }
-        }
-        Ok(symbols)
     }
 }

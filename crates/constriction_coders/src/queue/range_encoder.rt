@@ -3,10 +3,12 @@
 ghost use Rattle.std.specs.Prelude.{◌≡◌, ◌≢◌, ◌↔◌, ℕ, List, length, None, Err, IfOk, IfErr, OnErr, OnOk, IsTrue};
 ghost use Rattle.constriction_coders.specs.RangeDecoder.{held_by};
 ghost use Rattle.constriction_coders.specs.RangeLaws.{IsAt};
-ghost use Rattle.constriction_coders.specs.Spans.{whole, IsNarrowed, IsNarrowingFault, NarrowingStops, IsSealed, LeadTo};
+ghost use Rattle.constriction_coders.specs.Spans.{whole, IsNarrowed, IsNarrowingFault, IsSealed, LeadTo};
 ghost use Rattle.constriction_model.specs.Coding.{InTurn};
 ghost use Rattle.constriction_model.specs.Rows.{entry_of};
 
+use crate::code::Code;
+use crate::encode::Encode;
 use crate::queue::carrying::{ends_in_zero, raised, sealed, widened};
 use crate::queue::encoded_words::EncodedWords;
 use crate::queue::interval::unit_of;
@@ -82,67 +84,6 @@ impl RangeEncoder {
         self.range = u64::MAX;
     }
 
-    /// Encodes a symbol.
-    ///
-    /// It fails with `ImpossibleSymbol` only if the model has no entry for the symbol, and with `AllocError` only if a word is to be
-    /// written. An error leaves the encoder as it was.
-    pub fn encode_symbol<E, const PRECISION: usize>(
-        &mut self,
-        symbol: &E::Symbol,
-        model: &E,
-    ) -> Result<(), CoderError<DefaultEncoderFrontendError, AllocError>>
-    where
-        E: EncoderModel<PRECISION, Probability = u32>,
-        ensures ok { OnOk result (IsNarrowed (entry_of E.symbol_eq (E.rows model.now)) PRECISION symbol.now self.old self.new) }
-        ensures impossible { result ≡ Err (CoderError.Frontend DefaultEncoderFrontendError.ImpossibleSymbol)
-            ↔ (entry_of E.symbol_eq (E.rows model.now) symbol.now ≡ None) }
-        ensures fault { IfErr result (λ error. IsNarrowingFault (entry_of E.symbol_eq (E.rows model.now)) PRECISION error symbol.now
-            self.old) }
-        ensures err { OnErr result (self.new ≡ self.old) }
-    {
-        let Some((left, weight)) = model.left_cumulative_and_probability(symbol) else {
-            return Err(CoderError::Frontend(DefaultEncoderFrontendError::ImpossibleSymbol));
-        };
-        let unit = unit_of::<PRECISION>(self.range);
-        let by = unit * left as u64;
-        let range = unit * weight.get() as u64;
-        if range >= 1 << 32 {
-            self.lower = raised(&mut self.words, self.lower, by);
-            self.range = range;
-            return Ok(());
-        }
-        match self.words.reserve(1) {
-            Ok(()) => {}
-            Err(error) => return Err(CoderError::Backend(error)),
-        }
-        let lower = raised(&mut self.words, self.lower, by);
-        self.lower = widened(&mut self.words, lower);
-        self.range = range << 32;
-        Ok(())
-    }
-
-    /// Encodes the symbols, the first one first. An error leaves those before the symbol that was not encoded.
-    pub fn encode_iid_slice<E, const PRECISION: usize>(
-        &mut self,
-        symbols: &[E::Symbol],
-        model: &E,
-    ) -> Result<(), CoderError<DefaultEncoderFrontendError, AllocError>>
-    where
-        E: EncoderModel<PRECISION, Probability = u32>,
-        ensures ok { OnOk result (InTurn (IsNarrowed (entry_of E.symbol_eq (E.rows model.now)) PRECISION) symbols.now
-            self.old self.new) }
-        ensures err { IfErr result (λ error. NarrowingStops (entry_of E.symbol_eq (E.rows model.now)) PRECISION symbols.now error
-            self.old self.new) }
-    {
-        for symbol in symbols {
-            match self.encode_symbol(symbol, model) {
-                Ok(()) => {}
-                Err(error) => return Err(error),
-            }
-        }
-        Ok(())
-    }
-
     /// A copy of the words that [`into_compressed`](Self::into_compressed) gives. Memory for them is asked for once, if there are any.
     pub fn get_compressed(&self, alloc: Global) -> Result<Vec<u32>, AllocError>
         ensures ok { IfOk result (λ words. IsSealed self.now words.items) }
@@ -182,5 +123,55 @@ impl RangeEncoder {
             return Ok(self.words);
         }
         sealed(self.words, lower, range)
+    }
+}
+
+impl Code for RangeEncoder {
+    type Content = RangeEncoder;
+
+    ghost held = { λ encoder. encoder };
+}
+
+impl<const PRECISION: usize> Encode<PRECISION> for RangeEncoder {
+    type FrontendError = DefaultEncoderFrontendError;
+
+    type BackendError = AllocError;
+
+    ghost is_encoded = { λ entry old new. IsNarrowed entry PRECISION old new };
+
+    ghost encodes = { λ entry old r new.
+        IfErr r (λ error. IsNarrowingFault entry PRECISION error old) };
+
+    /// Encodes a symbol.
+    ///
+    /// It fails with `ImpossibleSymbol` only if the model has no entry for the symbol, and with
+    /// `AllocError` only if a word is to be written. An error leaves the encoder as it was.
+    fn encode_symbol<E>(
+        &mut self,
+        symbol: &E::Symbol,
+        model: &E,
+    ) -> Result<(), CoderError<DefaultEncoderFrontendError, AllocError>>
+    where
+        E: EncoderModel<PRECISION, Probability = u32>,
+    {
+        let Some((left, weight)) = model.left_cumulative_and_probability(symbol) else {
+            return Err(CoderError::Frontend(DefaultEncoderFrontendError::ImpossibleSymbol));
+        };
+        let unit = unit_of::<PRECISION>(self.range);
+        let by = unit * left as u64;
+        let range = unit * weight.get() as u64;
+        if range >= 1 << 32 {
+            self.lower = raised(&mut self.words, self.lower, by);
+            self.range = range;
+            return Ok(());
+        }
+        match self.words.reserve(1) {
+            Ok(()) => {}
+            Err(error) => return Err(CoderError::Backend(error)),
+        }
+        let lower = raised(&mut self.words, self.lower, by);
+        self.lower = widened(&mut self.words, lower);
+        self.range = range << 32;
+        Ok(())
     }
 }

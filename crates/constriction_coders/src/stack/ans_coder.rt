@@ -1,16 +1,13 @@
 //! A stack coder, an asymmetric numeral system: what was encoded last is decoded first.
 
-ghost use Rattle.std.specs.Prelude.{◌≡◌, ◌≢◌, ◌+◌, ◌-◌, ◌*◌, ◌%◌, ◌^◌, ◌<◌, ◌≤◌, ℕ, [], None, Err, IfErr, IfOk, OnOk, OnErr, vec_capacity};
+ghost use Rattle.std.specs.Prelude.{◌≡◌, ◌≢◌, ◌+◌, ◌-◌, ◌*◌, ◌%◌, ◌^◌, ◌<◌, ◌≤◌, ℕ, [], IfOk, OnOk, OnErr, vec_capacity};
 ghost use Rattle.constriction_coders.specs.States.{put};
-ghost use Rattle.constriction_coders.specs.Steps.{backend_result, content, IsWhole, Refills, IsOnTop, NeedsWord, IsEncoded, IsDecoded, IsDecodingFault, ReadsAtMostOne, WritesAtMostOne};
+ghost use Rattle.constriction_coders.specs.Steps.{content, IsWhole, Refills, IsOnTop, NeedsWord, ReadsAtMostOne, WritesAtMostOne};
 ghost use Rattle.constriction_model.specs.Precision.{IsPrecision};
-ghost use Rattle.constriction_model.specs.Rows.{entry_of};
 
-use crate::stack::state::{is_full_for, quantile_of, with_entry, without_entry};
+use crate::stack::state::{is_full_for, with_entry, without_entry};
 use constriction_backends::{StackSource, WordStack};
-use constriction_model::{DecoderModel, EncoderModel};
-use constriction_words::{CoderError, DefaultEncoderFrontendError};
-use std::alloc::{AllocError, Global};
+use std::alloc::Global;
 
 /// A coder with a state of 64 bits over a stack of words of 32 bits, in the format of the Rust crate's `DefaultAnsCoder`.
 ///
@@ -92,7 +89,7 @@ fn refilled<Backend: StackSource<u32>>(
 impl<Backend: WordStack<u32>> AnsCoder<Backend> {
     ghost use Rattle.constriction_coders.specs.AnsCoder.{held_by};
 
-    /// Puts on top a symbol that has this left cumulative and weight. [`encode_symbol`](Self::encode_symbol) asks a model for them; symbols
+    /// Puts on top a symbol that has this left cumulative and weight. [`encode_symbol`](crate::Encode::encode_symbol) asks a model for them; symbols
     /// whose entries are known before they are encoded need no model any more.
     ///
     /// The error is that of a write. It leaves the state and the words.
@@ -115,33 +112,6 @@ impl<Backend: WordStack<u32>> AnsCoder<Backend> {
                 Ok(())
             }
             Err(error) => Err(error),
-        }
-    }
-
-    /// Encodes a symbol.
-    ///
-    /// It fails with `ImpossibleSymbol` only if the model has no entry for the symbol, and with the backend's error only if a write
-    /// answered that. An error leaves the state and the words.
-    pub fn encode_symbol<E, const PRECISION: usize>(
-        &mut self,
-        symbol: &E::Symbol,
-        model: &E,
-    ) -> Result<(), CoderError<DefaultEncoderFrontendError, Backend::WriteError>>
-    where
-        E: EncoderModel<PRECISION, Probability = u32>,
-        ensures ok { OnOk result (IsEncoded (entry_of E.symbol_eq (E.rows model.now)) PRECISION symbol.now (held_by self.new)
-            (held_by self.old)) }
-        ensures impossible { (fault : _) → result ≡ Err (CoderError.Frontend fault)
-            → entry_of E.symbol_eq (E.rows model.now) symbol.now ≡ None }
-        ensures wrote { WritesAtMostOne Backend.write_gives self.old.words (backend_result result) self.new.words }
-        ensures same { OnErr result (held_by self.new ≡ held_by self.old) }
-    {
-        let Some((left, weight)) = model.left_cumulative_and_probability(symbol) else {
-            return Err(CoderError::Frontend(DefaultEncoderFrontendError::ImpossibleSymbol));
-        };
-        match self.put_entry::<PRECISION>(left, weight.get()) {
-            Ok(()) => Ok(()),
-            Err(error) => Err(CoderError::Backend(error)),
         }
     }
 }
@@ -173,34 +143,6 @@ impl<Backend: StackSource<u32>> AnsCoder<Backend> {
                 Ok(())
             }
             Err(error) => Err(error),
-        }
-    }
-
-    /// Decodes the symbol that was encoded last. If nothing was encoded, it still decodes a symbol.
-    ///
-    /// Memory is refused only if the model may refuse the row of the state's quantile. The backend's error comes only if the state
-    /// needs a word and a read answered that error. An error leaves the state and the words.
-    pub fn decode_symbol<D, const PRECISION: usize>(
-        &mut self,
-        model: &D,
-    ) -> Result<D::Symbol, CoderError<AllocError, Backend::ReadError>>
-    where
-        D: DecoderModel<PRECISION, Probability = u32>,
-        D::Symbol: Drop,
-        ensures ok { IfOk result (λ symbol. IsDecoded D.stands_for (D.rows model.now) PRECISION symbol (held_by self.old)
-            (held_by self.new)) }
-        ensures fault { IfErr result (λ error. IsDecodingFault D.may_refuse (D.rows model.now) PRECISION error (held_by self.old)) }
-        ensures read { ReadsAtMostOne Backend.read_gives self.old.words (backend_result result) self.new.words }
-        ensures same { OnErr result (held_by self.new ≡ held_by self.old) }
-    {
-        let quantile = quantile_of::<PRECISION>(self.state);
-        let (symbol, left, weight) = match model.quantile_function(quantile) {
-            Ok(row) => row,
-            Err(error) => return Err(CoderError::Frontend(error)),
-        };
-        match self.take_entry::<PRECISION>(left, weight.get()) {
-            Ok(()) => Ok(symbol),
-            Err(error) => Err(CoderError::Backend(error)),
         }
     }
 }

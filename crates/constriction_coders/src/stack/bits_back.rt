@@ -151,7 +151,7 @@ pub fn encode<
     ensures ok { OnOk result (IsCodedByLatent
         (IsDecodedByChosen (FnReturnsAt Posterior.Fn posterior) PosteriorModel.rows PRECISION PosteriorModel.stands_for)
         (IsEncodedByChosen (FnReturnsAt Likelihood.Fn likelihood) LikelihoodModel.rows PRECISION LikelihoodModel.symbol_eq)
-        (IsEncoded (entry_of Prior.symbol_eq (Prior.rows prior.now)) PRECISION) symbol.now (held_by coder.new) (held_by coder.old)) }
+        (λ s. IsEncoded (entry_of Prior.symbol_eq (Prior.rows prior.now) s) PRECISION) symbol.now (held_by coder.new) (held_by coder.old)) }
     ensures impossible { (fault : _) → result ≡ Err (CoderError.Frontend fault) → (latent : Latent) × IsChosenByState
         (FnReturnsAt Posterior.Fn posterior) PosteriorModel.rows PRECISION PosteriorModel.stands_for symbol.now latent (held_by coder.old)
         × (given : LikelihoodModel) × FnReturnsAt Likelihood.Fn likelihood latent given

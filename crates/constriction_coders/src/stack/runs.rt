@@ -1,40 +1,23 @@
-//! Messages of any number of symbols.
+//! Messages that are encoded from their last symbol on.
 
-ghost use Rattle.std.specs.Prelude.{◌≡◌, length, reverse, IfOk, IfErr, OnOk};
-ghost use Rattle.constriction_coders.specs.AnsCoder.{held_by, DecodingStops, EncodingStops};
-ghost use Rattle.constriction_coders.specs.Steps.{IsEncoded, IsDecoded};
+ghost use Rattle.std.specs.Prelude.{reverse, IfErr, OnOk};
+ghost use Rattle.std.specs.Iterator.{IsFiniteIterable};
+ghost use Rattle.constriction_backends.specs.Sink.{TakesItems};
+ghost use Rattle.constriction_coders.specs.AnsCoder.{held_by};
+ghost use Rattle.constriction_coders.specs.Encoding.{EncodingStops, StopsAt};
+ghost use Rattle.constriction_coders.specs.Places.{entry_by};
+ghost use Rattle.constriction_coders.specs.Steps.{IsEncoded};
 ghost use Rattle.constriction_model.specs.Coding.{InTurn};
 ghost use Rattle.constriction_model.specs.Rows.{entry_of};
 
+use crate::code::Code;
+use crate::encode::Encode;
 use crate::stack::ans_coder::AnsCoder;
-use constriction_backends::{StackSource, WordStack};
-use constriction_model::{DecoderModel, EncoderModel};
+use constriction_backends::WordStack;
+use constriction_model::EncoderModel;
 use constriction_words::{CoderError, DefaultEncoderFrontendError};
-use std::alloc::{AllocError, Global};
 
 impl<Backend: WordStack<u32>> AnsCoder<Backend> {
-    /// Encodes the symbols, the first one first.
-    pub fn encode_iid_slice<E, const PRECISION: usize>(
-        &mut self,
-        symbols: &[E::Symbol],
-        model: &E,
-    ) -> Result<(), CoderError<DefaultEncoderFrontendError, Backend::WriteError>>
-    where
-        E: EncoderModel<PRECISION, Probability = u32>,
-        ensures ok { OnOk result (InTurn (IsEncoded (entry_of E.symbol_eq (E.rows model.now)) PRECISION) (reverse symbols.now)
-            (held_by self.new) (held_by self.old)) }
-        ensures err { IfErr result (λ error. EncodingStops Backend.write_gives (entry_of E.symbol_eq (E.rows model.now)) PRECISION
-            symbols.now error (held_by self.old) self.new) }
-    {
-        for symbol in symbols {
-            match self.encode_symbol(symbol, model) {
-                Ok(()) => {}
-                Err(error) => return Err(error),
-            }
-        }
-        Ok(())
-    }
-
     /// Encodes the symbols, the last one first, so that decoding gives them in order.
     pub fn encode_iid_slice_reverse<E, const PRECISION: usize>(
         &mut self,
@@ -43,10 +26,13 @@ impl<Backend: WordStack<u32>> AnsCoder<Backend> {
     ) -> Result<(), CoderError<DefaultEncoderFrontendError, Backend::WriteError>>
     where
         E: EncoderModel<PRECISION, Probability = u32>,
-        ensures ok { OnOk result (InTurn (IsEncoded (entry_of E.symbol_eq (E.rows model.now)) PRECISION) symbols.now (held_by self.new)
-            (held_by self.old)) }
-        ensures err { IfErr result (λ error. EncodingStops Backend.write_gives (entry_of E.symbol_eq (E.rows model.now)) PRECISION
-            (reverse symbols.now) error (held_by self.old) self.new) }
+        ensures ok { OnOk result (InTurn
+            (λ s. IsEncoded (entry_of E.symbol_eq (E.rows model.now) s) PRECISION) symbols.now
+            (held_by self.new) (held_by self.old)) }
+        ensures err { IfErr result (λ error. EncodingStops ⟦<Self as Code>⟧.held
+            ⟦<Self as Encode<PRECISION>>⟧.is_encoded ⟦<Self as Encode<PRECISION>>⟧.encodes
+            (entry_of E.symbol_eq (E.rows model.now)) (reverse symbols.now) error (held_by self.old)
+            self.new) }
     {
         let count = symbols.len();
         for done in 0..count {
@@ -57,38 +43,47 @@ impl<Backend: WordStack<u32>> AnsCoder<Backend> {
         }
         Ok(())
     }
-}
 
-impl<Backend: StackSource<u32>> AnsCoder<Backend> {
-    /// Decodes `count` symbols, the one that was encoded last first.
-    ///
-    /// Memory for all of them is asked for first. If `count` comes from outside, use
-    /// [`decode_iid_symbols`](Self::decode_iid_symbols), which asks for none.
-    pub fn decode_iid_vec<D, const PRECISION: usize>(
+    /// Encodes symbols, each by a model of its own, from the back of an iterator on, so that decoding gives them from its front on.
+    pub fn encode_symbols_reverse<E, I, const PRECISION: usize>(
         &mut self,
-        alloc: Global,
-        count: usize,
-        model: &D,
-    ) -> Result<Vec<D::Symbol>, CoderError<AllocError, Backend::ReadError>>
+        symbols_and_models: I,
+    ) -> Result<(), CoderError<DefaultEncoderFrontendError, Backend::WriteError>>
     where
-        D: DecoderModel<PRECISION, Probability = u32>,
-        D::Symbol: Drop,
-        ensures ok { IfOk result (λ symbols. InTurn (IsDecoded D.stands_for (D.rows model.now) PRECISION) symbols.items (held_by self.old)
-            (held_by self.new)) }
-        ensures count { IfOk result (λ symbols. length symbols.items ≡ count) }
-        ensures err { IfErr result (λ error. DecodingStops D.stands_for D.may_refuse (D.rows model.now) PRECISION count error
+        E: EncoderModel<PRECISION, Probability = u32> + Drop,
+        E::Symbol: Drop,
+        I: IntoIterator<Item = (E::Symbol, E)>,
+        I::IntoIter: DoubleEndedIterator,
+        requires { IsFiniteIterable I.into_iter_gives I.IntoIter.can_next_back I.IntoIter.remaining symbols_and_models }
+        ensures { (given : I.IntoIter) × I.into_iter_gives symbols_and_models given × TakesItems I.IntoIter.next_back_gives given result
+            (λ done. InTurn (λ pair. ⟦<Self as Encode<PRECISION>>⟧.is_encoded
+            (entry_by E.symbol_eq E.rows pair)) done (held_by self.old) (held_by self.new))
+            (λ done pair error. StopsAt ⟦<Self as Code>⟧.held ⟦<Self as Encode<PRECISION>>⟧.is_encoded
+            ⟦<Self as Encode<PRECISION>>⟧.encodes (entry_by E.symbol_eq E.rows) done pair error
             (held_by self.old) self.new) }
     {
-        let mut symbols = match Vec::with_capacity(alloc, count) {
-            Ok(symbols) => symbols,
-            Err(error) => return Err(CoderError::Frontend(error)),
-        };
-        for done in 0..count {
-            match self.decode_symbol(model) {
-                Ok(symbol) => symbols.push_reserved(symbol),
-                Err(error) => return Err(error),
-            }
-        }
-        Ok(symbols)
+        self.encode_symbols::<E, _>(symbols_and_models.into_iter().rev())
+    }
+
+    /// Encodes symbols by one model, from the back of an iterator on, so that decoding gives them from its front on.
+    pub fn encode_iid_symbols_reverse<E, I, const PRECISION: usize>(
+        &mut self,
+        symbols: I,
+        model: &E,
+    ) -> Result<(), CoderError<DefaultEncoderFrontendError, Backend::WriteError>>
+    where
+        E: EncoderModel<PRECISION, Probability = u32>,
+        E::Symbol: Drop,
+        I: IntoIterator<Item = E::Symbol>,
+        I::IntoIter: DoubleEndedIterator,
+        requires { IsFiniteIterable I.into_iter_gives I.IntoIter.can_next_back I.IntoIter.remaining symbols }
+        ensures { (given : I.IntoIter) × I.into_iter_gives symbols given × TakesItems I.IntoIter.next_back_gives given result
+            (λ done. InTurn (λ symbol. ⟦<Self as Encode<PRECISION>>⟧.is_encoded
+            (entry_of E.symbol_eq (E.rows model.now) symbol)) done (held_by self.old) (held_by self.new))
+            (λ done symbol error. StopsAt ⟦<Self as Code>⟧.held
+            ⟦<Self as Encode<PRECISION>>⟧.is_encoded ⟦<Self as Encode<PRECISION>>⟧.encodes
+            (entry_of E.symbol_eq (E.rows model.now)) done symbol error (held_by self.old) self.new) }
+    {
+        self.encode_iid_symbols(symbols.into_iter().rev(), model)
     }
 }

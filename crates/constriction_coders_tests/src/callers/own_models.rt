@@ -19,6 +19,7 @@ use constriction::{CoderError, Queue};
 use constriction_coders::laws::{pairs_come_back, range_pairs_come_back};
 use constriction_coders::queue::{DecoderFrontendError, RangeDecoder, RangeEncoder};
 use constriction_coders::stack::AnsCoder;
+use constriction_coders::{Encode, decode_symbols};
 use std::alloc::{AllocError, Global};
 
 /// The words of symbols that are encoded each by its own model, from the back of an iterator on, if the states of that show what is left.
@@ -59,7 +60,7 @@ where
         (zip answers.items models.now) (held_by coder.old) left) }
 {
     let mut answers = Vec::new(alloc);
-    for answer in coder.decode_symbols::<&D, &[D], PRECISION>(models) {
+    for answer in decode_symbols::<_, &D, &[D], PRECISION>(coder, models) {
         match answer {
             Ok(symbol) => match answers.push(symbol) {
                 Ok(()) => {}
@@ -111,7 +112,7 @@ where
         → IsMessageOf (entry_by E.symbol_eq E.rows) PRECISION (rest pairs) words.items) }
 {
     let mut coder = RangeEncoder::new(alloc);
-    match coder.encode_symbols::<E, I, PRECISION>(pairs) {
+    match coder.encode_symbols::<E, I>(pairs) {
         Ok(()) => {}
         Err(_) => return None,
     }
@@ -138,7 +139,7 @@ where
         (zip answers.items models.now) (read_by decoder.old) left) }
 {
     let mut answers = Vec::new(alloc);
-    for answer in decoder.decode_symbols::<&D, &[D], PRECISION>(models) {
+    for answer in dedecode_symbols::<_, &D, &[D], PRECISION>(&mut coder, models) {
         match answer {
             Ok(symbol) => match answers.push(symbol) {
                 Ok(()) => {}

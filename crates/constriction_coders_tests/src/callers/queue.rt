@@ -12,6 +12,7 @@ use constriction_coders::laws::{
     range_symbols_come_back, sealed_words_tell,
 };
 use constriction_coders::queue::{EncodedWords, RangeDecoder, RangeEncoder};
+use constriction_coders::{Decode, Encode};
 use std::alloc::Global;
 
 /// A message by any model that encodes and decodes.
@@ -67,12 +68,12 @@ where
 {
     range_symbols_come_back::<M, M, EncodedWords, PRECISION>(model, model);
     let mut coder = RangeEncoder::new(alloc);
-    match coder.encode_iid_slice::<M, PRECISION>(symbols, model) {
+    match coder.encode_iid_slice::<M>(symbols, model) {
         Ok(()) => {}
         Err(_) => return None,
     }
     let mut decoder = coder.decoder();
-    match decoder.decode_iid_vec::<M, PRECISION>(alloc, symbols.len(), model) {
+    match decoder.decode_iid_vec::<M>(alloc, symbols.len(), model) {
         Ok(answers) => Some(answers),
         Err(_) => None,
     }
@@ -94,12 +95,12 @@ where
     range_symbols_come_back::<M, M, Cursor<u32, Vec<u32>>, PRECISION>(model, model);
     sealed_words_tell();
     let mut coder = RangeEncoder::new(alloc);
-    match coder.encode_iid_slice::<M, PRECISION>(first, model) {
+    match coder.encode_iid_slice::<M>(first, model) {
         Ok(()) => {}
         Err(_) => return None,
     }
     let place = coder.pos();
-    match coder.encode_iid_slice::<M, PRECISION>(second, model) {
+    match coder.encode_iid_slice::<M>(second, model) {
         Ok(()) => {}
         Err(_) => return None,
     }
@@ -114,7 +115,7 @@ where
         Ok(()) => {}
         Err(()) => unreachable!(),
     }
-    match decoder.decode_iid_vec::<M, PRECISION>(alloc, second.len(), model) {
+    match decoder.decode_iid_vec::<M>(alloc, second.len(), model) {
         Ok(answers) => Some(answers),
         Err(_) => None,
     }
@@ -139,11 +140,11 @@ where
     range_symbols_come_back::<M, M, Cursor<u32, Vec<u32>>, FIRST>(first, first);
     range_symbols_come_back::<N, N, Cursor<u32, Vec<u32>>, SECOND>(second, second);
     let mut coder = RangeEncoder::new(alloc);
-    match coder.encode_symbol::<M, FIRST>(symbol, first) {
+    match coder.encode_symbol::<M>(symbol, first) {
         Ok(()) => {}
         Err(_) => return None,
     }
-    match coder.encode_symbol::<N, SECOND>(other, second) {
+    match coder.encode_symbol::<N>(other, second) {
         Ok(()) => {}
         Err(_) => return None,
     }
@@ -153,10 +154,10 @@ where
     let Ok(mut opened) = RangeDecoder::from_compressed(Cursor::new_at_write_beginning(words)) else {
         return None;
     };
-    let Ok(answer) = opened.decode_symbol::<M, FIRST>(first) else {
+    let Ok(answer) = opened.decode_symbol::<M>(first) else {
         return None;
     };
-    match opened.decode_symbol::<N, SECOND>(second) {
+    match opened.decode_symbol::<N>(second) {
         Ok(last) => Some((answer, last)),
         Err(_) => None,
     }
@@ -178,11 +179,11 @@ where
 {
     range_places_come_back::<bool, M, Cursor<u32, Vec<u32>>, PRECISION>();
     let mut coder = RangeEncoder::new(alloc);
-    match coder.encode_symbol::<M, PRECISION>(symbol, first) {
+    match coder.encode_symbol::<M>(symbol, first) {
         Ok(()) => {}
         Err(_) => return None,
     }
-    match coder.encode_symbol::<M, PRECISION>(other, second) {
+    match coder.encode_symbol::<M>(other, second) {
         Ok(()) => {}
         Err(_) => return None,
     }
@@ -192,10 +193,10 @@ where
     let Ok(mut opened) = RangeDecoder::from_compressed(Cursor::new_at_write_beginning(words)) else {
         return None;
     };
-    let Ok(answer) = opened.decode_symbol::<M, PRECISION>(first) else {
+    let Ok(answer) = opened.decode_symbol::<M>(first) else {
         return None;
     };
-    match opened.decode_symbol::<M, PRECISION>(second) {
+    match opened.decode_symbol::<M>(second) {
         Ok(last) => Some((answer, last)),
         Err(_) => None,
     }

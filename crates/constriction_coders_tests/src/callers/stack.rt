@@ -16,6 +16,7 @@ use constriction_coders::laws::{
 };
 use constriction_coders::stack::AnsCoder;
 use constriction_coders::stack::bits_back::{decode, encode};
+use constriction_coders::Decode;
 use std::alloc::Global;
 
 /// Why no symbols were decoded.

@@ -10,7 +10,7 @@ use Rattle.constriction_adaptive.proofs.bytes.encode_bytes.Given as goal
 -- the bytes so far were encoded and learned, and the rows of their states tile
 abbrev pub invariant-loop-byte : goal.invariant-loop-byte
 invariant-loop-byte g l = record {
-  so_far : AreCoded g.P.Predictor.next (IsNarrowed (entry_at (entry_in g.P.Predictor.rows beq)) 16) (all_bits (take l.byte-index l.bytes))
+  so_far : AreCoded g.P.Predictor.next (λ s. IsNarrowed (entry_at (entry_in g.P.Predictor.rows beq) s) 16) (all_bits (take l.byte-index l.bytes))
       (g.P.Predictor.state l.initial.predictor) whole (g.P.Predictor.state l.predictor) l.encoder;
   tile : AllTile g.P.Predictor.rows g.P.Predictor.next 16 (g.P.Predictor.state l.initial.predictor)
       (all_bits (take l.byte-index l.bytes));

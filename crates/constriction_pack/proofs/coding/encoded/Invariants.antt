@@ -9,5 +9,5 @@ use Rattle.constriction_pack.proofs.coding.encoded.Given as goal
 -- the last bytes were encoded
 abbrev pub invariant-loop-done : goal.invariant-loop-done
 invariant-loop-done l =
-    InTurn (IsEncoded (entry_of nat_eq (contiguous_model_rows l.model)) 16) (drop (length l.bytes - l.done) l.bytes)
+    InTurn (λ s. IsEncoded (entry_of nat_eq (contiguous_model_rows l.model) s) 16) (drop (length l.bytes - l.done) l.bytes)
     (held_by l.coder) (content 0 [])

@@ -19,4 +19,4 @@ returns g c =
     (λ state symbol answer old new words now later fit e lies here d.
     range-symbol-back Stands eq (entry_in rows eq state) (rows state) gives tells 32 g.row.PRECISION d.tile d.alike
     g.met.Source.ReadWords.reads_upcoming symbol answer old new words now later fit
-    (record { left = e.left; weight = e.weight; known = e.known; within = e.within; next = e.next }) lies here d.step)
+    e lies here d.step)

@@ -8,7 +8,7 @@ pub loop-symbol-preserved : goal.loop-symbol-preserved
 loop-symbol-preserved g c = record {
   so_far =
       coded-take g.P.Predictor.next
-      (IsNarrowed (entry_at (entry_in g.P.Predictor.rows g.P.Model.EncoderModel.symbol_eq)) g.row.PRECISION) c.args.symbols.now
+      (λ s. IsNarrowed (entry_at (entry_in g.P.Predictor.rows g.P.Model.EncoderModel.symbol_eq) s) g.row.PRECISION) c.args.symbols.now
       c.loop-symbol.symbol-index c.symbol-item.result c.loop-symbol-test.true c.symbol-item.is _ _ _ _ c.loop-symbol.invariant.so_far _ _
       c.in-Ok.ensures.ok c.in-Ok.ensures.learned;
   tile =
@@ -20,6 +20,6 @@ loop-symbol-preserved g c = record {
 pub returns-in-Err-clause-err : goal.returns-in-Err-clause-err
 returns-in-Err-clause-err g c =
     let entry = entry_at (entry_in g.P.Predictor.rows g.P.Model.EncoderModel.symbol_eq) in
-    encoding-stops g.P.Predictor.next (IsNarrowed entry g.row.PRECISION) c.args.symbols.now c.loop-symbol.symbol-index
+    encoding-stops g.P.Predictor.next (λ s. IsNarrowed (entry s) g.row.PRECISION) c.args.symbols.now c.loop-symbol.symbol-index
     c.symbol-item.result c.loop-symbol-test.true c.symbol-item.is _ _ _ _ c.loop-symbol.invariant.so_far
     (IsEncodingFault entry g.row.PRECISION c.in-Err.error) _ _ c.in-Err.ensures.fault c.in-Err.ensures.unlearned c.in-Err.ensures.same

@@ -59,7 +59,7 @@ returns-in-Err-put_entry-clause-err g c =
     let i : ℕ = c.len-count.result - 1 - c.loop-done.done in
     let before : c.len-count.result - c.loop-done.done ≡ suc i = omega (arith, c.loop-done-test.true) in
     let stays = c.in-Err-put_entry.ensures.same in
-    let stops = stacking-stops next (IsEncoded entry g.row.PRECISION) first c.args.symbols.now i (held_by c.loop-done.coder)
+    let stops = stacking-stops next (λ s. IsEncoded (entry s) g.row.PRECISION) first c.args.symbols.now i (held_by c.loop-done.coder)
     (held_by c.args.coder.now) (omega (arith, c.loop-done.invariant.counted, c.loop-done-test.true))
     (rw before at c.loop-done.invariant.so_far) in (
       stops.0,
@@ -67,6 +67,6 @@ returns-in-Err-put_entry-clause-err g c =
       stops.2,
       stops.3,
       c.in-Ok.ensures.learned,
-      subst (λ (x : Content). InTurn (IsEncoded entry g.row.PRECISION) (placed next (next (fold next first stops.0) stops.1) stops.2) x
+      subst (λ (x : Content). InTurn (λ s. IsEncoded (entry s) g.row.PRECISION) (placed next (next (fold next first stops.0) stops.1) stops.2) x
           (held_by c.args.coder.now)) (sym stays) stops.4,
     )

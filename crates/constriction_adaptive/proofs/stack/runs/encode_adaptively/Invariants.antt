@@ -10,7 +10,7 @@ use Rattle.constriction_adaptive.proofs.stack.runs.encode_adaptively.Given as go
 abbrev pub invariant-loop-done : goal.invariant-loop-done
 invariant-loop-done g l = record {
   counted : l.count ≡ length l.symbols;
-  so_far : InTurn (IsEncoded (entry_at (entry_in g.P.Predictor.rows g.P.Model.EncoderModel.symbol_eq)) g.row.PRECISION)
+  so_far : InTurn (λ s. IsEncoded (entry_at (entry_in g.P.Predictor.rows g.P.Model.EncoderModel.symbol_eq) s) g.row.PRECISION)
       (drop (l.count - l.done) (placed g.P.Predictor.next (g.P.Predictor.state l.fn.predictor) l.symbols)) (held_by l.coder)
       (held_by l.initial.coder);
 }

@@ -14,4 +14,4 @@ returns g c =
     stack-back (placed next) (λ state symbol. (state, symbol)) next (λ state. refl) (λ state x xs. refl) (entry_at (entry_in rows eq))
     g.row.PRECISION _ g.met.P.Predictor.next_law (IsTakenIn rows Stands eq g.row.PRECISION)
     (λ state symbol answer full rest under e d. symbol-back Stands eq (entry_in rows eq state) (rows state) 32 g.row.PRECISION d.tile
-    d.alike symbol answer full rest under (record { left = e.left; weight = e.weight; known = e.known; top = e.top }) d.step)
+    d.alike symbol answer full rest under e d.step)

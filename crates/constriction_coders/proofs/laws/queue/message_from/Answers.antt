@@ -22,7 +22,7 @@ returns-clause-valid g c = λ is symbols words more long message fit known.
     elim invalid.why [
       | inl fewer ↦
           not-invalid (λ ss. ss) _ _ _ _ _ c.range_symbols_come_back.ensures.symbols (held_by c.in-Ok.opened) c.args.count
-          invalid.done invalid.reached invalid.led symbols (words ++ more) whole message.0 whole-reached long message.1
+          invalid.done (held_by invalid.reached) invalid.led symbols (words ++ more) whole message.0 whole-reached long message.1
           (sealed-tell message.0 words more message.2 fit) (c.in-Ok.ensures.begins (words ++ more) known) fewer.0 fewer.1.fault.0
-      | inr none ↦ cc (none.1)
+      | inr none ↦ cc (none.3, none.4)
     ]

@@ -3,7 +3,6 @@ use Rattle.constriction_coders.specs.Intervals.{IsRead}
 use Rattle.constriction_coders.specs.Places.{placed, entry_at, IsDecodedAt}
 use Rattle.constriction_coders.proofs.Decoding.{range-symbol-back}
 use Rattle.constriction_coders.proofs.PlacesComingBack.{range-back}
-use Rattle.constriction_coders.proofs.SameEntry.{same-narrowed}
 use Rattle.constriction_coders.proofs.laws.queue.range_places_come_back.Goals as goal
 
 pub returns : goal.returns
@@ -16,4 +15,4 @@ returns g c = λ eq entry rows next first same.
     (λ state symbol answer old new words now later fit e lies here d.
     range-symbol-back Stands eq (entry state) (rows state) gives tells 32 g.row.PRECISION d.tile d.alike
     g.met.Source.ReadWords.reads_upcoming symbol answer old new words now later fit
-    (same-narrowed (entry state) symbol e refl) lies here d.step) first
+    e lies here d.step) first

@@ -9,7 +9,7 @@ use Rattle.constriction_coders.proofs.stack.ans_coder.AnsCoder.encode_iid_slice_
 abbrev pub invariant-loop-done : goal.invariant-loop-done
 invariant-loop-done g l = record {
   counted : l.count ≡ length l.symbols;
-  so_far : InTurn (IsEncoded (entry_of g.E.EncoderModel.symbol_eq (g.E.EntropyModel.rows l.model)) g.row.PRECISION)
+  so_far : InTurn (λ s. IsEncoded (entry_of g.E.EncoderModel.symbol_eq (g.E.EntropyModel.rows l.model) s) g.row.PRECISION)
       (drop (length l.symbols - l.done) l.symbols) (held_by l.self)
       (held_by l.initial.self);
 }

@@ -1,0 +1,25 @@
+use Rattle.std.proofs.Common.{[], arith, ap, inl, inr, length, refl}
+use Rattle.std.proofs.lemmas.List.{length_push}
+use Rattle.constriction_model.specs.lemmas.Turns.{turn-last}
+use Rattle.constriction_coders.proofs.decode.Decode.decode_iid_vec.Goals as goal
+
+pub returns-in-Err-decode_symbol-clause-err : goal.returns-in-Err-decode_symbol-clause-err
+returns-in-Err-decode_symbol-clause-err g c = record {
+  done = c.loop-done.symbols.items;
+  reached = c.loop-done.self;
+  led = c.loop-done.invariant.so_far;
+  why = inl (omega (arith, c.loop-done.invariant.counted), c.in-Err-decode_symbol.ensures.step);
+}
+
+pub returns-in-Err-clause-err : goal.returns-in-Err-clause-err
+returns-in-Err-clause-err g c =
+    record { done = []; reached = c.args.self.now; led = refl; why = inr (refl, refl, c.into.result, c.into.ensures, refl) }
+
+pub loop-done-preserved : goal.loop-done-preserved
+loop-done-preserved g c =
+    let pushed = c.push_reserved.ensures.items in record {
+      goes_on = c.decode_symbol.ensures.goes_on;
+      counted = omega (arith, ap length pushed, length_push c.loop-done.symbols.items c.in-Ok-decode_symbol.symbol);
+      room = omega (arith, c.push_reserved.ensures.capacity, c.loop-done.invariant.room);
+      so_far = rw pushed (turn-last _ _ _ _ _ _ c.loop-done.invariant.so_far c.in-Ok-decode_symbol.ensures.ok);
+    }
