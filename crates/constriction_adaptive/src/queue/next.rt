@@ -10,8 +10,8 @@ ghost use Rattle.constriction_adaptive.specs.Predicted.{entry_in, IsEncodingFaul
 use crate::error::EncoderFrontendError;
 use crate::predictor::Predictor;
 use constriction_backends::ReadWords;
-use constriction_coders::{Decode, Encode};
 use constriction_coders::queue::{DecoderFrontendError, RangeDecoder, RangeEncoder};
+use constriction_coders::{Decode, Encode};
 use constriction_words::{CoderError, Queue};
 use std::alloc::AllocError;
 

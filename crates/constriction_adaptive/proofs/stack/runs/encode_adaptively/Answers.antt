@@ -51,6 +51,18 @@ loop-done-preserved g c =
           (rw before at c.loop-done.invariant.so_far));
     }
 
+pub returns-clause-ok : goal.returns-clause-ok
+returns-clause-ok g c =
+    let entry = entry_at (entry_in g.P.Predictor.rows g.P.Model.EncoderModel.symbol_eq) in
+    let places = placed g.P.Predictor.next (g.P.Predictor.state c.args.predictor.now) c.args.symbols.now in
+    let none : c.len-count.result - c.loop-done.done ≡ 0 = omega (arith, c.loop-done-test.false) in
+    record {
+      led =
+          subst (λ n. InTurn (λ s. IsEncoded (entry s) g.row.PRECISION) (drop n places) (held_by c.loop-done.coder)
+          (held_by c.args.coder.now)) none c.loop-done.invariant.so_far;
+      learned = c.in-Ok.ensures.learned;
+    }
+
 pub returns-in-Err-put_entry-clause-err : goal.returns-in-Err-put_entry-clause-err
 returns-in-Err-put_entry-clause-err g c =
     let entry = entry_at (entry_in g.P.Predictor.rows g.P.Model.EncoderModel.symbol_eq) in
