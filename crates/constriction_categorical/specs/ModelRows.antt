@@ -1,9 +1,11 @@
 -- The rows of each model of given weights, its member `rows`, under one name for the clauses that speak of them.
-use Rattle.std.specs.Prelude.{ℕ, List, map}
+use Rattle.std.specs.Prelude.{◌≡◌, ℕ, Bool, List, Option, Result, map}
 use Rattle.std.specs.declared.cmp.PartialEq as equality
 use Rattle.constriction_numbers.specs.declared.whole_number.WholeNumber as number
 use Rattle.constriction_buffers.specs.declared.buf.SafeBuf as buffer
-use Rattle.constriction_model.specs.Rows.{Row, contiguous_rows}
+use Rattle.constriction_model.specs.Acceptance.{completed, IsDecidedByBoth}
+use Rattle.constriction_model.specs.Rows.{Row, contiguous_rows, rows_of}
+use Rattle.constriction_model.specs.declared.error.ModelError.{ModelError}
 use Rattle.constriction_model.specs.declared.traits.EntropyModel as model
 use Rattle.constriction_stored_rows.specs.Stored.{lefts_in, rows_paired, weights_of}
 use Rattle.constriction_categorical.specs.declared.contiguous.ContiguousCategoricalEntropyModel.{ContiguousCategoricalEntropyModel}
@@ -21,6 +23,14 @@ module _ {Symbol Word NonZero Cdf : Type 0} {precision : ℕ} {symbols : equalit
   abbrev pub decoder_model_rows : decoder.NonContiguousCategoricalDecoderModel Symbol Word Cdf precision NonZero symbols words cdf
       → List (Row Symbol)
   decoder_model_rows m = rows_paired words.whole precision (cdf.words_of m.cdf)
+
+  -- the result of a constructor of these models that is given symbols and weights: `Accepted` decides, and a model has their rows
+  abbrev pub MakesDecoder : {J S K T : Type 0} → (List Symbol → List ℕ → Type 0) → Bool
+      → (J → S → Type 0) → (S → Option Symbol → S → Type 0) → J → (K → T → Type 0) → (T → Option Word → T → Type 0) → K
+      → Result (decoder.NonContiguousCategoricalDecoderModel Symbol Word Cdf precision NonZero symbols words cdf) ModelError → Type 0
+  MakesDecoder Accepted infer becomes steps symbols_from other_becomes other_steps weights_from =
+      IsDecidedByBoth Accepted (completed precision infer) becomes steps symbols_from other_becomes other_steps weights_from
+      words.whole (λ m ss ws. decoder_model_rows m ≡ rows_of ss ws)
 
 module _ {Model LookupTable Symbol Word NonZero : Type 0} {precision slot_bits : ℕ}
     {searching : model.Ghosts Model precision Symbol Word NonZero} {words : number.Ghosts Word NonZero}

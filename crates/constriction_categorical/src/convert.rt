@@ -105,7 +105,7 @@ where
 {
     match entries_of_model(alloc, model) {
         Ok(entries) => Ok(decoder_over(entries)),
-        Err(refused) => Err(refused),
+        Err(error) => Err(error),
     }
 }
 
@@ -122,7 +122,7 @@ where
 {
     match compared_entries_of_model(alloc, model) {
         Ok(entries) => Ok(decoder_over(entries)),
-        Err(refused) => Err(refused),
+        Err(error) => Err(error),
     }
 }
 
@@ -160,7 +160,7 @@ where
 {
     match to_generic_decoder_model::<M, PRECISION>(alloc, model) {
         Ok(searching) => lookup_over(alloc, searching),
-        Err(fault) => Err(fault),
+        Err(error) => Err(error),
     }
 }
 

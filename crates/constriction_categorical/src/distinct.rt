@@ -3,13 +3,11 @@
 //! [`into_lookup_decoder_model`](NonContiguousCategoricalDecoderModel::into_lookup_decoder_model) turns their
 //! models into lookup models.
 
-ghost use Rattle.std.specs.Prelude.{◌≡◌};
 ghost use Rattle.std.specs.Iterator.{IsFiniteIterable};
-ghost use Rattle.constriction_model.specs.Acceptance.{completed, AreAccepted, WasReadOf, IsDecidedByBoth, GivesDistinct};
+ghost use Rattle.constriction_model.specs.Acceptance.{AreAccepted, WasReadOf, GivesDistinct};
 ghost use Rattle.constriction_model.specs.Precision.{IsPrecision};
-ghost use Rattle.constriction_model.specs.Rows.{rows_of};
 ghost use Rattle.constriction_categorical.specs.InOrder.{AreInOrder};
-ghost use Rattle.constriction_categorical.specs.ModelRows.{decoder_model_rows};
+ghost use Rattle.constriction_categorical.specs.ModelRows.{MakesDecoder};
 ghost use Rattle.constriction_categorical.specs.private.Entries.{MakesEntries};
 
 use crate::non_contiguous::{NonContiguousCategoricalDecoderModel, decoder_over};
@@ -24,24 +22,24 @@ use std::hash::Hash;
 fn entries_of_distinct<
     Probability: WholeNumber,
     Symbol: Eq + Drop,
-    Symbols: IntoIterator<Item = Symbol>,
-    Weights: IntoIterator<Item = Probability>,
+    S: IntoIterator<Item = Symbol>,
+    P: IntoIterator<Item = Probability>,
     const PRECISION: usize,
 >(
     alloc: Global,
-    symbols: Symbols,
-    weights: Weights,
-    infer_last: bool,
+    symbols: S,
+    probabilities: P,
+    infer_last_probability: bool,
 ) -> Result<Vec<(Probability, Symbol)>, ModelError>
     requires precision { IsPrecision Probability.BITS PRECISION }
-    requires symbols_end { IsFiniteIterable Symbols.into_iter_gives Symbols.IntoIter.can_next Symbols.IntoIter.remaining symbols }
-    requires weights_end { IsFiniteIterable Weights.into_iter_gives Weights.IntoIter.can_next Weights.IntoIter.remaining weights }
-    requires distinct { GivesDistinct Symbols.into_iter_gives Symbols.IntoIter.next_gives Symbol.eq symbols }
+    requires symbols_end { IsFiniteIterable S.into_iter_gives S.IntoIter.can_next S.IntoIter.remaining symbols }
+    requires probabilities_end { IsFiniteIterable P.into_iter_gives P.IntoIter.can_next P.IntoIter.remaining probabilities }
+    requires distinct { GivesDistinct S.into_iter_gives S.IntoIter.next_gives Symbol.eq symbols }
     ensures { MakesEntries Symbol.eq (AreAccepted Symbol.eq Probability.BITS PRECISION) Probability.whole Probability.BITS
-        PRECISION infer_last (WasReadOf Symbols.into_iter_gives Symbols.IntoIter.next_gives symbols)
-        (WasReadOf Weights.into_iter_gives Weights.IntoIter.next_gives weights) result }
+        PRECISION infer_last_probability (WasReadOf S.into_iter_gives S.IntoIter.next_gives symbols)
+        (WasReadOf P.into_iter_gives P.IntoIter.next_gives probabilities) result }
 {
-    entries_read::<_, _, _, _, PRECISION>(alloc, symbols, weights, infer_last)
+    entries_read::<_, _, _, _, PRECISION>(alloc, symbols, probabilities, infer_last_probability)
 }
 
 /// The entries of these symbols and weights, if no two of the symbols are equal. Each symbol is hashed.
@@ -49,23 +47,28 @@ fn entries_of_distinct<
 fn entries_hashed<
     Probability: WholeNumber,
     Symbol: Hash + Eq + Drop,
-    Symbols: IntoIterator<Item = Symbol>,
-    Weights: IntoIterator<Item = Probability>,
+    S: IntoIterator<Item = Symbol>,
+    P: IntoIterator<Item = Probability>,
     const PRECISION: usize,
 >(
     alloc: Global,
-    symbols: Symbols,
-    weights: Weights,
-    infer_last: bool,
+    symbols: S,
+    probabilities: P,
+    infer_last_probability: bool,
 ) -> Result<Vec<(Probability, Symbol)>, ModelError>
     requires precision { IsPrecision Probability.BITS PRECISION }
-    requires symbols_end { IsFiniteIterable Symbols.into_iter_gives Symbols.IntoIter.can_next Symbols.IntoIter.remaining symbols }
-    requires weights_end { IsFiniteIterable Weights.into_iter_gives Weights.IntoIter.can_next Weights.IntoIter.remaining weights }
+    requires symbols_end { IsFiniteIterable S.into_iter_gives S.IntoIter.can_next S.IntoIter.remaining symbols }
+    requires probabilities_end { IsFiniteIterable P.into_iter_gives P.IntoIter.can_next P.IntoIter.remaining probabilities }
     ensures { MakesEntries Symbol.eq (AreAccepted Symbol.eq Probability.BITS PRECISION) Probability.whole Probability.BITS
-        PRECISION infer_last (WasReadOf Symbols.into_iter_gives Symbols.IntoIter.next_gives symbols)
-        (WasReadOf Weights.into_iter_gives Weights.IntoIter.next_gives weights) result }
+        PRECISION infer_last_probability (WasReadOf S.into_iter_gives S.IntoIter.next_gives symbols)
+        (WasReadOf P.into_iter_gives P.IntoIter.next_gives probabilities) result }
 {
-    let entries = entries_read::<_, _, _, _, PRECISION>(alloc, symbols, weights, infer_last)?;
+    let entries = entries_read::<_, _, _, _, PRECISION>(
+        alloc,
+        symbols,
+        probabilities,
+        infer_last_probability,
+    )?;
     let apart = are_apart(alloc, &entries)?;
     if !apart {
         return Err(ModelError::InvalidTable);
@@ -78,23 +81,28 @@ fn entries_hashed<
 fn entries_in_order<
     Probability: WholeNumber,
     Symbol: Ord + Drop,
-    Symbols: IntoIterator<Item = Symbol>,
-    Weights: IntoIterator<Item = Probability>,
+    S: IntoIterator<Item = Symbol>,
+    P: IntoIterator<Item = Probability>,
     const PRECISION: usize,
 >(
     alloc: Global,
-    symbols: Symbols,
-    weights: Weights,
-    infer_last: bool,
+    symbols: S,
+    probabilities: P,
+    infer_last_probability: bool,
 ) -> Result<Vec<(Probability, Symbol)>, ModelError>
     requires precision { IsPrecision Probability.BITS PRECISION }
-    requires symbols_end { IsFiniteIterable Symbols.into_iter_gives Symbols.IntoIter.can_next Symbols.IntoIter.remaining symbols }
-    requires weights_end { IsFiniteIterable Weights.into_iter_gives Weights.IntoIter.can_next Weights.IntoIter.remaining weights }
+    requires symbols_end { IsFiniteIterable S.into_iter_gives S.IntoIter.can_next S.IntoIter.remaining symbols }
+    requires probabilities_end { IsFiniteIterable P.into_iter_gives P.IntoIter.can_next P.IntoIter.remaining probabilities }
     ensures { MakesEntries Symbol.eq (AreInOrder Symbol.eq Symbol.cmp Probability.BITS PRECISION) Probability.whole Probability.BITS
-        PRECISION infer_last (WasReadOf Symbols.into_iter_gives Symbols.IntoIter.next_gives symbols)
-        (WasReadOf Weights.into_iter_gives Weights.IntoIter.next_gives weights) result }
+        PRECISION infer_last_probability (WasReadOf S.into_iter_gives S.IntoIter.next_gives symbols)
+        (WasReadOf P.into_iter_gives P.IntoIter.next_gives probabilities) result }
 {
-    let entries = entries_read::<_, _, _, _, PRECISION>(alloc, symbols, weights, infer_last)?;
+    let entries = entries_read::<_, _, _, _, PRECISION>(
+        alloc,
+        symbols,
+        probabilities,
+        infer_last_probability,
+    )?;
     let in_order = are_in_order(&entries);
     if !in_order {
         return Err(ModelError::InvalidTable);
@@ -122,9 +130,8 @@ impl<
         requires symbols_end { IsFiniteIterable S.into_iter_gives S.IntoIter.can_next S.IntoIter.remaining symbols }
         requires probabilities_end { IsFiniteIterable P.into_iter_gives P.IntoIter.can_next P.IntoIter.remaining probabilities }
         requires distinct { GivesDistinct S.into_iter_gives S.IntoIter.next_gives Symbol.eq symbols }
-        ensures { IsDecidedByBoth (AreAccepted Symbol.eq Probability.BITS PRECISION) (completed PRECISION infer_last_probability)
-            S.into_iter_gives S.IntoIter.next_gives symbols P.into_iter_gives P.IntoIter.next_gives probabilities
-            Probability.whole (λ m ss ws. decoder_model_rows m ≡ rows_of ss ws) result }
+        ensures { MakesDecoder (AreAccepted Symbol.eq Probability.BITS PRECISION) infer_last_probability
+            S.into_iter_gives S.IntoIter.next_gives symbols P.into_iter_gives P.IntoIter.next_gives probabilities result }
     {
         match entries_of_distinct::<Probability, Symbol, S, P, PRECISION>(
             alloc,
@@ -133,7 +140,7 @@ impl<
             infer_last_probability,
         ) {
             Ok(entries) => Ok(decoder_over(entries)),
-            Err(refused) => Err(refused),
+            Err(error) => Err(error),
         }
     }
 
@@ -157,9 +164,8 @@ impl<
         requires precision { IsPrecision Probability.BITS PRECISION }
         requires symbols_end { IsFiniteIterable S.into_iter_gives S.IntoIter.can_next S.IntoIter.remaining symbols }
         requires probabilities_end { IsFiniteIterable P.into_iter_gives P.IntoIter.can_next P.IntoIter.remaining probabilities }
-        ensures { IsDecidedByBoth (AreAccepted Symbol.eq Probability.BITS PRECISION) (completed PRECISION infer_last_probability)
-            S.into_iter_gives S.IntoIter.next_gives symbols P.into_iter_gives P.IntoIter.next_gives probabilities
-            Probability.whole (λ m ss ws. decoder_model_rows m ≡ rows_of ss ws) result }
+        ensures { MakesDecoder (AreAccepted Symbol.eq Probability.BITS PRECISION) infer_last_probability
+            S.into_iter_gives S.IntoIter.next_gives symbols P.into_iter_gives P.IntoIter.next_gives probabilities result }
     {
         match entries_hashed::<Probability, Symbol, S, P, PRECISION>(
             alloc,
@@ -168,7 +174,7 @@ impl<
             infer_last_probability,
         ) {
             Ok(entries) => Ok(decoder_over(entries)),
-            Err(refused) => Err(refused),
+            Err(error) => Err(error),
         }
     }
 }
@@ -194,9 +200,8 @@ impl<
         requires precision { IsPrecision Probability.BITS PRECISION }
         requires symbols_end { IsFiniteIterable S.into_iter_gives S.IntoIter.can_next S.IntoIter.remaining symbols }
         requires probabilities_end { IsFiniteIterable P.into_iter_gives P.IntoIter.can_next P.IntoIter.remaining probabilities }
-        ensures { IsDecidedByBoth (AreInOrder Symbol.eq Symbol.cmp Probability.BITS PRECISION) (completed PRECISION infer_last_probability)
-            S.into_iter_gives S.IntoIter.next_gives symbols P.into_iter_gives P.IntoIter.next_gives probabilities
-            Probability.whole (λ m ss ws. decoder_model_rows m ≡ rows_of ss ws) result }
+        ensures { MakesDecoder (AreInOrder Symbol.eq Symbol.cmp Probability.BITS PRECISION) infer_last_probability
+            S.into_iter_gives S.IntoIter.next_gives symbols P.into_iter_gives P.IntoIter.next_gives probabilities result }
     {
         match entries_in_order::<Probability, Symbol, S, P, PRECISION>(
             alloc,
@@ -205,7 +210,7 @@ impl<
             infer_last_probability,
         ) {
             Ok(entries) => Ok(decoder_over(entries)),
-            Err(refused) => Err(refused),
+            Err(error) => Err(error),
         }
     }
 }

@@ -89,7 +89,7 @@ impl<
         >::from_nonzero_fixed_point_probabilities(alloc, probabilities, infer_last_probability)
         {
             Ok(model) => lookup_over(alloc, model),
-            Err(refused) => Err(refused),
+            Err(error) => Err(error),
         }
     }
 }
@@ -114,7 +114,7 @@ impl<Probability: IndexWord, const PRECISION: usize, const SLOT_BITS: usize> Clo
                 model,
                 lookup_table,
             }),
-            Err(refused) => Err(refused),
+            Err(error) => Err(error),
         }
     }
 }

@@ -125,7 +125,7 @@ impl<
             infer_last_probability,
         ) {
             Ok(model) => lookup_over(alloc, model),
-            Err(refused) => Err(refused),
+            Err(error) => Err(error),
         }
     }
 }
@@ -150,7 +150,7 @@ impl<
                 model,
                 lookup_table,
             }),
-            Err(refused) => Err(refused),
+            Err(error) => Err(error),
         }
     }
 }

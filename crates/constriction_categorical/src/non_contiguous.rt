@@ -4,11 +4,10 @@ ghost use Rattle.std.specs.Prelude.{◌≡◌, ◌+◌, ◌^◌, ◌<◌, ◌≤
 ghost use Rattle.std.specs.Iterator.{IsFiniteIterable};
 ghost use Rattle.std.specs.List.{IsDistinct};
 ghost use Rattle.std.proofs.Props.{props};
-ghost use Rattle.constriction_model.specs.Acceptance.{completed, AreAccepted, WasReadOf, IsMadeOfBoth, IsDecidedByBoth};
+ghost use Rattle.constriction_model.specs.Acceptance.{AreAccepted, WasReadOf};
 ghost use Rattle.constriction_model.specs.Model.{StandForRows, ClonesAreEqual};
 ghost use Rattle.constriction_model.specs.Precision.{IsPrecision};
 ghost use Rattle.constriction_model.specs.Probe.{IsProbeFor};
-ghost use Rattle.constriction_model.specs.Rows.{rows_of};
 ghost use Rattle.constriction_stored_rows.specs.Stored.{IsStored, AreEndWords, rows_paired};
 ghost use Rattle.constriction_stored_rows.specs.lemmas.SymbolRows.{paired-tiles};
 ghost use Rattle.constriction_model.specs.Tables.{rows_between};
@@ -78,27 +77,30 @@ impl<
 fn entries_compared<
     Probability: WholeNumber,
     Symbol: Eq + Drop,
-    Symbols: IntoIterator<Item = Symbol>,
-    Weights: IntoIterator<Item = Probability>,
+    S: IntoIterator<Item = Symbol>,
+    P: IntoIterator<Item = Probability>,
     const PRECISION: usize,
 >(
     alloc: Global,
-    symbols: Symbols,
-    weights: Weights,
-    infer_last: bool,
+    symbols: S,
+    probabilities: P,
+    infer_last_probability: bool,
 ) -> Result<Vec<(Probability, Symbol)>, ModelError>
     requires precision { IsPrecision Probability.BITS PRECISION }
-    requires symbols_end { IsFiniteIterable Symbols.into_iter_gives Symbols.IntoIter.can_next Symbols.IntoIter.remaining symbols }
-    requires weights_end { IsFiniteIterable Weights.into_iter_gives Weights.IntoIter.can_next Weights.IntoIter.remaining weights }
+    requires symbols_end { IsFiniteIterable S.into_iter_gives S.IntoIter.can_next S.IntoIter.remaining symbols }
+    requires probabilities_end { IsFiniteIterable P.into_iter_gives P.IntoIter.can_next P.IntoIter.remaining probabilities }
     ensures { MakesEntries Symbol.eq (AreAccepted Symbol.eq Probability.BITS PRECISION) Probability.whole Probability.BITS
-        PRECISION infer_last (WasReadOf Symbols.into_iter_gives Symbols.IntoIter.next_gives symbols)
-        (WasReadOf Weights.into_iter_gives Weights.IntoIter.next_gives weights) result }
+        PRECISION infer_last_probability (WasReadOf S.into_iter_gives S.IntoIter.next_gives symbols)
+        (WasReadOf P.into_iter_gives P.IntoIter.next_gives probabilities) result }
 {
     let symbols = symbols.into_iter();
-    let weights = weights.into_iter();
+    let probabilities = probabilities.into_iter();
     let room = Vec::with_capacity(alloc, entries_announced::<PRECISION>(symbols.size_hint().0))?;
     rows_read::<Probability, Symbol, Vec<(Probability, Symbol)>, _, _, PRECISION>(
-        room, symbols, weights, infer_last,
+        room,
+        symbols,
+        probabilities,
+        infer_last_probability,
     )
 }
 
@@ -131,7 +133,7 @@ impl<
     Probability: WholeNumber,
     const PRECISION: usize,
 > NonContiguousCategoricalDecoderModel<Symbol, Probability, Vec<(Probability, Symbol)>, PRECISION> {
-    ghost use Rattle.constriction_categorical.specs.ModelRows.{decoder_model_rows};
+    ghost use Rattle.constriction_categorical.specs.ModelRows.{MakesDecoder, decoder_model_rows};
 
     /// The model of these symbols and weights, of which the last may be inferred, as in a contiguous model.
     ///
@@ -158,9 +160,8 @@ impl<
         requires precision { IsPrecision Probability.BITS PRECISION }
         requires symbols_end { IsFiniteIterable S.into_iter_gives S.IntoIter.can_next S.IntoIter.remaining symbols }
         requires probabilities_end { IsFiniteIterable P.into_iter_gives P.IntoIter.can_next P.IntoIter.remaining probabilities }
-        ensures { IsDecidedByBoth (AreAccepted Symbol.eq Probability.BITS PRECISION) (completed PRECISION infer_last_probability)
-            S.into_iter_gives S.IntoIter.next_gives symbols P.into_iter_gives P.IntoIter.next_gives probabilities
-            Probability.whole (λ m ss ws. decoder_model_rows m ≡ rows_of ss ws) result }
+        ensures { MakesDecoder (AreAccepted Symbol.eq Probability.BITS PRECISION) infer_last_probability
+            S.into_iter_gives S.IntoIter.next_gives symbols P.into_iter_gives P.IntoIter.next_gives probabilities result }
     {
         match entries_compared::<Probability, Symbol, S, P, PRECISION>(
             alloc,
@@ -169,7 +170,7 @@ impl<
             infer_last_probability,
         ) {
             Ok(entries) => Ok(decoder_over(entries)),
-            Err(refused) => Err(refused),
+            Err(error) => Err(error),
         }
     }
 
@@ -285,7 +286,7 @@ impl<
     {
         match self.cloned_entries(alloc) {
             Ok(entries) => Ok(decoder_over(entries)),
-            Err(refused) => Err(refused),
+            Err(error) => Err(error),
         }
     }
 }

@@ -51,7 +51,7 @@ impl<'m, Symbol: Clone, Probability: WholeNumber, const PRECISION: usize> Iterat
         self.from = index + 1;
         match self.entries[index].1.clone() {
             Ok(symbol) => Some(Ok((symbol, left, weight))),
-            Err(refused) => Some(Err(refused)),
+            Err(error) => Some(Err(error)), // the next call goes on
         }
     }
 
@@ -81,7 +81,7 @@ impl<'m, Symbol: Clone, Probability: WholeNumber, const PRECISION: usize> Double
         self.to = index;
         match self.entries[index].1.clone() {
             Ok(symbol) => Some(Ok((symbol, left, weight))),
-            Err(failed) => Some(Err(failed)),
+            Err(error) => Some(Err(error)),
         }
     }
 }

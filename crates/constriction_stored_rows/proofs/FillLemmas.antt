@@ -1,17 +1,17 @@
 -- Filling a cdf row by row.
-use Rattle.std.specs.Prelude.{◌≡◌, ℕ, ◌+◌, ◌-◌, ◌%◌, ◌^◌, ◌<◌, ◌≤◌, ◌⊎◌, Bool, true, false, List, [], ◌∷◌, ◌++◌, length, map, sum, All, Option, Some, None}
-use Rattle.std.proofs.Common.{suc, zero, refl, ap, sym, ◌∙◌, arith, inl, inr}
+use Rattle.std.specs.Prelude.{◌≡◌, ℕ, ◌+◌, ◌-◌, ◌%◌, ◌^◌, ◌<◌, ◌≤◌, ◌⊎◌, Bool, true, false, List, [], ◌∷◌, ◌++◌, length, map, sum, All, Option, Some, None, if◌then◌else◌}
+use Rattle.std.proofs.Common.{suc, zero, refl, ap, sym, subst, ◌∙◌, arith, inl, inr}
 use Rattle.std.proofs.Math.Nat.{mod-eq_of_lt, mod_self}
 use Rattle.std.proofs.lemmas.Bool.{cases_lt}
-use Rattle.std.proofs.lemmas.List.{map-append, length-append, get_or_append_left}
+use Rattle.std.proofs.lemmas.List.{map-append, length-append, length-map, length_push, get_or_append_left}
 use Rattle.std.proofs.lemmas.List.Elements.{All-push, All-nil, All-contains, Contains-append_left, Contains-push}
 use Rattle.std.proofs.lemmas.List.Sums.{sum_by-cons, sum_by-append, sum_by_push}
 use Rattle.constriction_model.specs.Acceptance.{IsAccepted, completed}
 use Rattle.constriction_model.specs.lemmas.Walks.{yields-more}
 use Rattle.constriction_model.specs.Precision.{IsPrecision}
-use Rattle.constriction_stored_rows.specs.Stored.{lefts_from}
-use Rattle.constriction_stored_rows.specs.private.Filling.{IsRowEnd, IsFilled, IsCdfBegun}
-use Rattle.constriction_stored_rows.specs.Ends.{FillsAll, IsNoLast, IsNoneInferred, AndTotal, IsCdfOf, IsNoCdf}
+use Rattle.constriction_stored_rows.specs.Stored.{lefts_from, total_of}
+use Rattle.constriction_stored_rows.specs.private.Filling.{AreLeftsOf, IsCdfBegun, IsFilled, IsRowEnd, IsTaken, LacksRoom}
+use Rattle.constriction_stored_rows.specs.Ends.{FillsAll, IsNoLast, IsNoneInferred, IsCdfOf, IsNoCdf}
 
 -- one left cumulative more
 pub lefts_from-push : (l : ℕ) (ws : List ℕ) (w : ℕ) → lefts_from l (ws ++ w ∷ []) ≡ lefts_from l ws ++ (l + sum ws) ∷ []
@@ -20,6 +20,21 @@ lefts_from-push l (v ∷ ws) w =
     ap (λ xs. l ∷ xs)
     (lefts_from-push (l + v) ws w
     ∙ ap (λ x. lefts_from (l + v) ws ++ x ∷ []) (omega (arith, sum_by-cons (λ x. x) v ws)))
+
+-- there are as many left cumulatives as weights
+pub length-lefts_from : (l : ℕ) (ws : List ℕ) → length (lefts_from l ws) ≡ length ws
+length-lefts_from l [] = refl
+length-lefts_from l (w ∷ ws) = ap suc (length-lefts_from (l + w) ws)
+
+-- there is a row for each given weight, and one for an inferred one
+pub rows-many : (precision : ℕ) (infer : Bool) (ws : List ℕ)
+    → length (completed precision infer ws) ≡ length ws + (if infer then 1 else 0)
+rows-many precision false ws = omega arith
+rows-many precision true ws = length_push ws (2 ^ precision - sum ws)
+
+-- completed weights are at least as many as the given ones
+pub length-completed : (precision : ℕ) (infer : Bool) (ws : List ℕ) → length ws ≤ length (completed precision infer ws)
+length-completed precision infer ws = omega (arith, rows-many precision infer ws)
 
 module _ {W : Type 0} (whole : W → ℕ) (bits precision : ℕ) where
   pub filled-none : (z : W) → whole z ≡ 0 → 0 < 2 ^ precision → IsFilled whole bits precision [] [] (Some z)
@@ -200,12 +215,23 @@ room_below left room all bits is narrow = omega arith
 pub end_below : (left weight room all bits : ℕ) → left + room + 1 ≡ all → all ≤ bits → weight ≤ room → left + weight < bits
 end_below left weight room all bits is narrow less = omega arith
 
--- a cdf is ended with the total
-pub ended : {W : Type 0} (whole : W → ℕ) (lefts filled cdf : List W) (total : W) (is : ℕ) (numbers : List ℕ)
-    → filled ≡ lefts → cdf ≡ filled ++ total ∷ [] → whole total ≡ is → map whole lefts ≡ numbers
-    → map whole cdf ≡ numbers ++ is ∷ []
-ended whole lefts filled cdf total is numbers f t e l =
-    ap (map whole) t ∙ map-append whole filled (total ∷ []) ∙ rw (f, e, l) refl
+-- what has taken left cumulatives takes no more, or one more
+module _ {T W : Type 0} (holds : T → List W → Type 0) (has_room : T → ℕ → Type 0) where
+  pub taken-none : (before : T) → holds before [] → IsTaken holds has_room before before []
+  taken-none before none = record {
+    held = none;
+    room = λ n has. let e : n + 0 ≡ n = omega arith in subst (has_room before) e has;
+  }
+
+  pub taken-more : (before now after : T) (lefts : List W) (left : W) → IsTaken holds has_room before now lefts
+      → ((ls : List W) → holds now ls → holds after (ls ++ left ∷ [])) → ((n : ℕ) → has_room now (n + 1) → has_room after n)
+      → IsTaken holds has_room before after (lefts ++ left ∷ [])
+  taken-more before now after lefts left t held room = record {
+    held = held lefts t.held;
+    room = λ n has.
+        let e : n + length (lefts ++ left ∷ []) ≡ n + 1 + length lefts = omega (arith, length_push lefts left) in
+        room n (t.room (n + 1) (subst (has_room before) e has));
+  }
 
 pub begun-none : {S W : Type 0} (steps : S → Option W → S → Type 0) (it : S) (whole : W → ℕ) (bits precision : ℕ) (cdf : List W)
     (left : W) (room : ℕ) → cdf ≡ [] → whole left ≡ 0 → room + 1 ≡ 2 ^ precision
@@ -238,19 +264,15 @@ module _ {S W : Type 0} {steps : S → Option W → S → Type 0} {it : S} {whol
   given-accepted infer w fills = good-given whole bits precision (weights ++ w ∷ []) (cdf ++ left ∷ [])
       (filled-more whole bits precision weights cdf left w None t.filled (row-last whole bits precision left w room infer t.rest fills))
 
-  pub begun-given : (infer : Bool) (cdf' all : List W) (s' s'' : S) (w : W) → cdf' ≡ cdf ++ left ∷ [] → steps s (Some w) s'
-      → FillsAll bits (whole w) room infer × steps s' None s'' → AndTotal whole bits precision cdf' all
-      → IsCdfOf steps it whole bits precision infer all
-  begun-given infer cdf' all s' s'' w pushed sw fills end =
+  pub begun-given : (infer : Bool) (s' s'' : S) (w : W) → steps s (Some w) s'
+      → FillsAll bits (whole w) room infer × steps s' None s'' → (Taken : List W → Type 0) → Taken (cdf ++ left ∷ [])
+      → AreLeftsOf steps it whole bits precision infer Taken
+  begun-given infer s' s'' w sw fills Taken taken =
       let given : infer ≡ false = fills.0.given in
       let good = given-accepted infer w fills.0 in (
         weights ++ w ∷ [],
         (s'', (s', yields-more steps it weights s w s' t.given sw, fills.1)),
-        rw given (
-          good.0,
-          ended whole (cdf ++ left ∷ []) cdf' all end.0 (2 ^ precision % 2 ^ bits)
-              (lefts_from 0 (map whole (weights ++ w ∷ []))) pushed end.1 end.2 good.1,
-        ),
+        rw given (good.0, cdf ++ left ∷ [], good.1, taken),
       )
 
   pub begun-bad_given : (infer : Bool) (s' s'' : S) (w : W) → steps s (Some w) s'
@@ -282,19 +304,50 @@ module _ {S W : Type 0} {steps : S → Option W → S → Type 0} {it : S} {whol
       × (map whole (cdf ++ left ∷ []) ≡ lefts_from 0 (completed precision true (map whole weights)))
   inferred-accepted narrow = good-inferred whole bits precision weights cdf left t.filled (omega (arith, t.rest, narrow))
 
-  pub begun-inferred : (infer : Bool) (all : List W) (s' : S) → steps s None s' → (infer ≡ true) × (room + 1 < 2 ^ bits)
-      → AndTotal whole bits precision (cdf ++ left ∷ []) all → IsCdfOf steps it whole bits precision infer all
-  begun-inferred infer all s' none word end =
+  pub begun-inferred : (infer : Bool) (s' : S) → steps s None s' → (infer ≡ true) × (room + 1 < 2 ^ bits)
+      → (Taken : List W → Type 0) → Taken (cdf ++ left ∷ []) → AreLeftsOf steps it whole bits precision infer Taken
+  begun-inferred infer s' none word Taken taken =
       let inferred : infer ≡ true = word.0 in
-      let good = inferred-accepted word.1 in (
-        weights,
-        (s', (s, t.given, none)),
-        rw inferred (
-          good.0,
-          ended whole (cdf ++ left ∷ []) (cdf ++ left ∷ []) all end.0 (2 ^ precision % 2 ^ bits)
-              (lefts_from 0 (completed precision true (map whole weights))) refl end.1 end.2 good.1,
-        ),
+      let good = inferred-accepted word.1 in
+      (weights, (s', (s, t.given, none)), rw inferred (good.0, cdf ++ left ∷ [], good.1, taken))
+
+  -- there are as many left cumulatives as weights
+  begun-long : length cdf ≡ length weights
+  begun-long =
+      omega (
+        arith,
+        length-map cdf whole,
+        length-map weights whole,
+        ap length t.filled.lefts,
+        length-lefts_from 0 (map whole weights),
       )
+
+  -- no room for one more row, of a given weight or of the inferred one
+  pub begun-full_given : (infer : Bool) (s' : S) (w : W) → steps s (Some w) s' → (HasRoom Now : ℕ → Type 0)
+      → ((n : ℕ) → HasRoom (n + length cdf) → Now n) → ¬ (Now 1) → LacksRoom steps it whole precision infer HasRoom
+  begun-full_given infer s' w sw HasRoom Now kept full =
+      let given = yields-more steps it weights s w s' t.given sw in
+      let many : length (map whole (weights ++ w ∷ [])) ≡ 1 + length cdf =
+      omega (arith, length-map (weights ++ w ∷ []) whole, length_push weights w, begun-long) in (
+        weights ++ w ∷ [],
+        s',
+        given,
+        1 + length cdf,
+        omega (arith, many, length-completed precision infer (map whole (weights ++ w ∷ []))),
+        λ room. full (kept 1 room),
+      )
+
+  pub begun-full_inferred : (infer : Bool) → infer ≡ true → (HasRoom Now : ℕ → Type 0)
+      → ((n : ℕ) → HasRoom (n + length cdf) → Now n) → ¬ (Now 1) → LacksRoom steps it whole precision infer HasRoom
+  begun-full_inferred infer e HasRoom Now kept full =
+      let many : length (completed precision infer (map whole weights)) ≡ 1 + length cdf =
+      rw e (omega (
+        arith,
+        length_push (map whole weights) (2 ^ precision - sum (map whole weights)),
+        length-map weights whole,
+        begun-long,
+      )) in
+      (weights, s, t.given, 1 + length cdf, omega (arith, many), λ room. full (kept 1 room))
 
   pub begun-bad_inferred : (infer : Bool) (s' : S) → steps s None s' → IsNoneInferred bits room infer
       → IsNoCdf steps it whole bits precision infer
@@ -303,3 +356,13 @@ module _ {S W : Type 0} {steps : S → Option W → S → Type 0} {it : S} {whol
     (s', (s, t.given, none)),
     bad-none_inferred whole bits precision infer weights cdf left room t.filled t.rest why,
   )
+
+-- the left cumulatives of accepted weights, with the total after them, are a cdf
+pub cdf-taken : {S W : Type 0} (steps : S → Option W → S → Type 0) (it : S) (whole : W → ℕ) (bits precision : ℕ) (infer : Bool)
+    (Taken : List W → Type 0) (lefts cdf : List W) (total : W) → AreLeftsOf steps it whole bits precision infer Taken
+    → ((ls : List W) → Taken ls → lefts ≡ ls) → cdf ≡ lefts ++ total ∷ [] → whole total ≡ total_of bits precision
+    → IsCdfOf steps it whole bits precision infer cdf
+cdf-taken steps it whole bits precision infer Taken lefts cdf total t held is e =
+    let given = t.2 in
+    let lefts_are = held given.1 given.3 in
+    (t.0, t.1, (given.0, rw (is, lefts_are) (map-append whole given.1 (total ∷ []) ∙ rw (given.2, e) refl)))

@@ -2,13 +2,12 @@
 use Rattle.std.specs.Prelude.{◌≡◌, ℕ, ◌+◌, ◌-◌, ◌^◌, ◌<◌, ◌≤◌, ◌⊎◌, List, [], ◌∷◌, ◌++◌, length, sum, take, All}
 use Rattle.std.proofs.Common.{refl, ap, sym, ◌∙◌, arith, get_or, add-one, inl, inr}
 use Rattle.std.proofs.lemmas.List.{take_all, take_more}
-use Rattle.std.proofs.lemmas.List.Elements.{All-push}
-use Rattle.std.proofs.lemmas.List.Sums.{sum_by_push}
+use Rattle.std.proofs.lemmas.List.Elements.{All-push, All-from_get_or}
+use Rattle.std.proofs.lemmas.List.Sums.{sum_by_push, get_or-le-sum_by}
+use Rattle.constriction_model.specs.Acceptance.{IsAccepted}
 use Rattle.constriction_stored_rows.specs.Stored.{lefts_from, IsStored}
 use Rattle.constriction_stored_rows.specs.lemmas.Stored.{stored-of, stored-row, stored-some}
-use Rattle.constriction_stored_rows.specs.private.Filling.{LeavesRoom}
 use Rattle.constriction_stored_rows.proofs.FillLemmas.{lefts_from-push}
-use Rattle.constriction_stored_rows.proofs.RefillLemmas.{last-accepted}
 
 -- the numbers are the left cumulatives of rows of these weights, and of a next row, which begins at `before`
 pub record AreBegun (numbers weights : List ℕ) (before : ℕ) : Type 0 where
@@ -39,11 +38,22 @@ module _ (bits precision : ℕ) where
   begun-stored : (numbers weights : List ℕ) (before room : ℕ) → 2 ^ precision ≤ 2 ^ bits → AreBegun numbers weights before
       → before + room + 1 ≡ 2 ^ precision → room + 1 < 2 ^ bits → IsStored bits precision numbers
   begun-stored numbers weights before room wide t rest fits =
-      let left : LeavesRoom precision weights room = record { positive = t.positive; rest = omega (arith, t.next, rest) } in
+      let total : sum (weights ++ (room + 1) ∷ []) ≡ sum weights + (room + 1) = sum_by_push (λ x. x) weights (room + 1) in
+      let each : All (λ x. x < 2 ^ bits) weights =
+      All-from_get_or (λ x. x < 2 ^ bits) weights 0
+      (λ i h. omega (arith, get_or-le-sum_by (λ x. x) weights i 0 h, t.next, rest)) in
+      let accepted : IsAccepted bits precision (weights ++ (room + 1) ∷ []) = record {
+        tiles =
+            record {
+              positive = All-push (λ x. 0 < x) weights (room + 1) t.positive (omega arith);
+              total = omega (arith, total, t.next, rest);
+            };
+        fit = All-push (λ x. x < 2 ^ bits) weights (room + 1) each fits;
+      } in
       let e : 0 + sum weights ≡ sum weights = omega arith in
       (stored-of bits precision numbers (weights ++ (room + 1) ∷ [])
       (t.lefts ∙ ap (λ n. lefts_from 0 weights ++ n ∷ []) (sym e) ∙ sym (lefts_from-push 0 weights (room + 1)))
-      (last-accepted precision bits weights (room + 1) room wide left refl fits)).0
+      accepted).0
 
   pub not_stored-empty : (numbers : List ℕ) → length numbers ≡ 0 → ¬ (IsStored bits precision numbers)
   not_stored-empty numbers e t = omega (arith, e, stored-some bits precision numbers t)

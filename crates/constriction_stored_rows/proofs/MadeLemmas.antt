@@ -1,6 +1,6 @@
 -- What a constructor says of what its readers were given.
-use Rattle.std.specs.Prelude.{◌≡◌, List, ◌++◌, Option, Ok, Err}
-use Rattle.std.proofs.Common.{refl, subst, inl, inr}
+use Rattle.std.specs.Prelude.{◌≡◌, List, Option, Ok, Err}
+use Rattle.std.proofs.Common.{subst, inl, inr}
 use Rattle.constriction_model.specs.Acceptance.{Reading, ToItsEnd, SoFar, WasReadOf, MayGive}
 use Rattle.constriction_stored_rows.specs.private.Given.{GaveBad, GaveBothBad}
 
@@ -22,14 +22,6 @@ module _ {J S A : Type 0} (becomes : J → S → Type 0) (steps : S → Option A
       λ xs more good. some.3 more.0 (subst Good more.1 good),
     )
   ]
-
-  -- and the other way round
-  pub bad-given : (xs : List A) × (reading : Reading) × WasReadOf becomes steps from reading xs
-      × ((all : List A) → MayGive reading xs all → ¬ (Good all))
-      → (it : S) × becomes from it × GaveBad steps it Good
-  bad-given (xs, ToItsEnd, read, never) = (read.iterator, read.became, inl (xs, read.was_read, never xs refl))
-  bad-given (xs, SoFar, read, never) =
-      (read.iterator, read.became, inr (xs, read.was_read.0, read.was_read.1, λ ys. never (xs ++ ys) (ys, refl)))
 
 -- what was read from two values is not good, whatever might follow it
 abbrev pub BothBad : {A B : Type 0} → (Reading → List A → Type 0) → (Reading → List B → Type 0) → (List A → List B → Type 0) → Type 0

@@ -13,7 +13,7 @@ use Rattle.constriction_stored_rows.specs.private.Reading.{IsRead, IsReadBadly, 
 use Rattle.constriction_model.specs.lemmas.Rows.{symbols-rows_from}
 use Rattle.constriction_model.specs.Rows.{Row, rows_from, rows_of, symbols_of}
 use Rattle.constriction_model.specs.lemmas.Walks.{yields-more}
-use Rattle.constriction_stored_rows.proofs.FillLemmas.{begun-more, given-accepted, inferred-accepted}
+use Rattle.constriction_stored_rows.proofs.FillLemmas.{begun-more, given-accepted, inferred-accepted, length-completed}
 
 -- ---- lists with two equal symbols
 
@@ -70,11 +70,6 @@ rows_from-push l (t ∷ ss) (v ∷ ws) s w e =
     ap (λ rs. record { symbol = t; left = l; weight = v } ∷ rs)
     (rows_from-push (l + v) ss ws s w (omega arith)
     ∙ ap (λ n. rows_from (l + v) ss ws ++ record { symbol = s; left = n; weight = w } ∷ []) more)
-
--- completed weights are at least as many as the given ones
-pub length-completed : (precision : ℕ) (infer : Bool) (ws : List ℕ) → length ws ≤ length (completed precision infer ws)
-length-completed precision false ws = omega arith
-length-completed precision true ws = omega (arith, length_push ws (2 ^ precision - sum ws))
 
 module _ {S T Symbol W Stored : Type 0} {steps : S → Option Symbol → S → Type 0} {wsteps : T → Option W → T → Type 0}
     {eq : Symbol → Symbol → Bool} {holds : Stored → List (Row Symbol) → Type 0} {whole : W → ℕ} {bits precision : ℕ} {it : S} {jt : T}

@@ -1,8 +1,8 @@
 -- How a list of weights ends, and the cdf that it fills. Only public clauses of this crate cite this module.
-use Rattle.std.specs.Prelude.{◌≡◌, ℕ, ◌+◌, ◌%◌, ◌^◌, ◌<◌, ◌⊎◌, Bool, true, false, List, [], ◌∷◌, ◌++◌, map, Option}
+use Rattle.std.specs.Prelude.{◌≡◌, ℕ, ◌+◌, ◌^◌, ◌<◌, ◌⊎◌, Bool, true, false, List, map, Option}
 use Rattle.constriction_model.specs.Acceptance.{completed, IsAccepted}
 use Rattle.constriction_stored_rows.specs.private.Given.{GaveGood, GaveBad}
-use Rattle.constriction_stored_rows.specs.Stored.{lefts_from}
+use Rattle.constriction_stored_rows.specs.Stored.{lefts_from, with_total}
 
 -- a given weight ends a list: it takes all quantiles that are left, one more than `room`, and none is inferred
 pub record FillsAll (bits weight room : ℕ) (infer : Bool) : Type 0 where
@@ -19,16 +19,11 @@ IsNoLast weight room infer = (weight ≡ 0) ⊎ (room + 1 < weight) ⊎ ((infer 
 abbrev pub IsNoneInferred : ℕ → ℕ → Bool → Type 0
 IsNoneInferred bits room infer = (infer ≡ false) ⊎ ((infer ≡ true) × (room + 1 ≡ 2 ^ bits))
 
--- the cdf, and after it the total
-abbrev pub AndTotal : {Word : Type 0} → (Word → ℕ) → ℕ → ℕ → List Word → List Word → Type 0
-AndTotal {Word} whole bits precision lefts cdf =
-    (total : Word) × (cdf ≡ lefts ++ total ∷ []) × (whole total ≡ 2 ^ precision % 2 ^ bits)
-
 module _ {S W : Type 0} (steps : S → Option W → S → Type 0) (it : S) (whole : W → ℕ) (bits precision : ℕ) where
   -- the iterator gave accepted weights, and this is their cdf
   abbrev pub IsCdfOf : Bool → List W → Type 0
   IsCdfOf infer cdf = GaveGood steps it (λ ws. IsAccepted bits precision (completed precision infer (map whole ws))
-      × (map whole cdf ≡ lefts_from 0 (completed precision infer (map whole ws)) ++ (2 ^ precision % 2 ^ bits) ∷ []))
+      × (map whole cdf ≡ with_total bits precision (lefts_from 0 (completed precision infer (map whole ws)))))
 
   -- the iterator gave weights that are not accepted, whatever would follow
   abbrev pub IsNoCdf : Bool → Type 0

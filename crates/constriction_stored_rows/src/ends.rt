@@ -54,10 +54,9 @@ fn end_by_words<Word: WholeNumber, Symbol, const PRECISION: usize>(
     entries[index + next].0.wrapping_minus(end_words[next])
 }
 
-/// The same without end words: where the next row begins, or the total. It is out of line, since its callers call it
-/// for a last row alone, or never, and a loop is shorter without it.
-#[inline(never)]
-fn end_without_words<Word: WholeNumber, Symbol, const PRECISION: usize>(
+/// Where the row at `index` ends: where the next row begins, or the total.
+#[inline(always)]
+fn end_of_row<Word: WholeNumber, Symbol, const PRECISION: usize>(
     entries: &[(Word, Symbol)],
     index: usize,
 ) -> Word
@@ -69,6 +68,19 @@ fn end_without_words<Word: WholeNumber, Symbol, const PRECISION: usize>(
         return entries[index + 1].0;
     }
     Word::wrapping_pow2(PRECISION)
+}
+
+/// The same out of line: its callers call it for a last row alone, or never, and a loop is shorter without it.
+#[inline(never)]
+fn end_out_of_line<Word: WholeNumber, Symbol, const PRECISION: usize>(
+    entries: &[(Word, Symbol)],
+    index: usize,
+) -> Word
+    requires precision { IsPrecision Word.BITS PRECISION }
+    requires in_bounds { index < length entries.now }
+    ensures { Word.whole result ≡ end_at Word.BITS PRECISION (map (λ x. Word.whole x.0) entries.now) index }
+{
+    end_of_row::<Word, Symbol, PRECISION>(entries, index)
 }
 
 /// Where the row at `from` ends, in a walk up to `to`, or `None` at the end of the walk. While more than one row is left
@@ -93,7 +105,7 @@ pub fn end_in_walk<Word: WholeNumber, Symbol, const PRECISION: usize>(
     if rows == 0 {
         return None;
     }
-    Some(end_without_words::<Word, Symbol, PRECISION>(entries, from))
+    Some(end_out_of_line::<Word, Symbol, PRECISION>(entries, from))
 }
 
 /// Where the row at `index` ends. `cdf` has the left cumulatives and the total, or nothing.
@@ -109,7 +121,7 @@ fn end_in_cdf<Word: WholeNumber, Symbol, const PRECISION: usize>(
     ensures { Word.whole result ≡ end_at Word.BITS PRECISION (map (λ x. Word.whole x.0) entries.now) index }
 {
     if cdf.is_empty() {
-        return end_without_words::<Word, Symbol, PRECISION>(entries, index);
+        return end_out_of_line::<Word, Symbol, PRECISION>(entries, index);
     }
     cdf[index + 1]
 }
@@ -147,14 +159,8 @@ pub fn paired_row_at<Word: WholeNumber, Symbol, const PRECISION: usize>(
     ensures weight { Word.whole (Word.base result.1)
         ≡ slice_index (weights_of PRECISION (map (λ x. Word.whole x.0) entries.now)) index }
 {
-    if index + 1 < entries.len() {
-        return paired_row_ending_at::<Word, Symbol, PRECISION>(
-            entries,
-            entries[index + 1].0,
-            index,
-        );
-    }
-    paired_row_ending_at::<Word, Symbol, PRECISION>(entries, Word::wrapping_pow2(PRECISION), index)
+    let end = end_of_row::<Word, Symbol, PRECISION>(entries, index);
+    paired_row_ending_at::<Word, Symbol, PRECISION>(entries, end, index)
 }
 
 /// The row at `index`, which ends at `end`, with a clone of its symbol.
@@ -174,7 +180,7 @@ fn cloned_row_ending_at<Word: WholeNumber, Symbol: Clone, const PRECISION: usize
     let (left, weight) = paired_row_ending_at::<Word, Symbol, PRECISION>(entries, end, index);
     match entries[index].1.clone() {
         Ok(symbol) => Ok((symbol, left, weight)),
-        Err(refused) => Err(refused),
+        Err(error) => Err(error),
     }
 }
 
@@ -225,7 +231,7 @@ pub fn with_cdf<Entry, Kind: CdfEntry<Entry>, const PRECISION: usize>(
         ++ with_total Kind.Word.BITS PRECISION (map Kind.cumulative entries.now)) }
 {
     let mut all = words;
-    'entries: for entry in entries {
+    for entry in entries {
         all = with_item(all, Kind::cumulative_of(entry))?;
     }
     with_item(all, Kind::Word::wrapping_pow2(PRECISION))

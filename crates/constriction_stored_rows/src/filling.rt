@@ -1,21 +1,27 @@
 //! Filling the quantiles below `2^PRECISION` with rows, one after another.
 
-ghost use Rattle.std.specs.Prelude.{◌≡◌, ◌+◌, ◌^◌, ◌<◌, ◌≤◌, ◌⊎◌, [], ◌∷◌, ◌++◌, Some, None, IfOk, IsTrue, true, false, min};
+ghost use Rattle.std.specs.Prelude.{◌≡◌, ◌+◌, ◌^◌, ◌<◌, ◌≤◌, ◌⊎◌, ⊤, ℕ, List, [], ◌∷◌, ◌++◌, length, map, Some, None, IfOk, IsErr, OnOk, OnErr, IsTrue, true, false, min};
 ghost use Rattle.std.specs.Vec.{vec_len, vec_capacity};
 ghost use Rattle.std.specs.Iterator.{IsFinite, IsFiniteIterable};
+ghost use Rattle.constriction_model.specs.Acceptance.{completed, IsAccepted};
 ghost use Rattle.constriction_model.specs.Precision.{IsPrecision};
-ghost use Rattle.constriction_stored_rows.specs.Ends.{FillsAll, IsNoLast, IsNoneInferred, AndTotal, IsCdfOf, IsNoCdf};
+ghost use Rattle.constriction_stored_rows.specs.Ends.{FillsAll, IsNoLast, IsNoneInferred, IsCdfOf, IsNoCdf};
+ghost use Rattle.constriction_stored_rows.specs.Stored.{lefts_from, total_of};
+ghost use Rattle.constriction_stored_rows.specs.private.Filling.{AreLeftsOf, IsTaken, LacksRoom};
 
 use constriction_model::ModelError;
 use constriction_numbers::WholeNumber;
 use std::alloc::{AllocError, Global};
+use std::mem;
 
 /// Makes room for one more item.
 #[cold]
 #[inline(never)]
 fn make_room<T: Drop>(items: &mut Vec<T>) -> Result<(), AllocError>
     ensures same { items.new.items ≡ items.old.items }
+    ensures len { vec_len items.new ≡ vec_len items.old }
     ensures room { IfOk result (λ _. vec_len items.new < vec_capacity items.new) }
+    ensures capacity { vec_capacity items.old ≤ vec_capacity items.new }
 {
     items.reserve(1)
 }
@@ -27,7 +33,9 @@ fn make_room<T: Drop>(items: &mut Vec<T>) -> Result<(), AllocError>
 /// each item.
 #[inline(always)]
 pub fn with_item<T: Drop>(mut items: Vec<T>, item: T) -> Result<Vec<T>, AllocError>
-    ensures { IfOk result (λ v. v.items ≡ items.items ++ item ∷ []) }
+    ensures items { IfOk result (λ v. v.items ≡ items.items ++ item ∷ []) }
+    ensures room { IfOk result (λ v. (vec_len v ≡ vec_len items + 1) × (vec_capacity items ≤ vec_capacity v)) }
+    ensures full { IsErr result → vec_len items ≡ vec_capacity items }
 {
     if items.len() == items.capacity() {
         let mut full = items;
@@ -38,26 +46,26 @@ pub fn with_item<T: Drop>(mut items: Vec<T>, item: T) -> Result<Vec<T>, AllocErr
     Ok(items)
 }
 
-/// Whether a row of this weight leaves no quantiles. `room` is the number of quantiles after the first one of the
+/// Whether a row of this weight leaves some quantiles. `room` is the number of quantiles after the first one of the
 /// row, and `one` is the word 1.
 ///
-/// One comparison separates the weights that leave some quantiles from all others: 0, the weight that fills the
-/// quantiles, and weights that exceed them.
+/// One comparison separates these weights from all others: 0, the weight that fills the quantiles, and weights that
+/// exceed them.
 #[inline(always)]
-pub(crate) fn leaves_none<Word: WholeNumber>(weight: Word, one: Word, room: Word) -> bool
+pub(crate) fn leaves_some<Word: WholeNumber>(weight: Word, one: Word, room: Word) -> bool
     requires one { Word.whole one ≡ 1 }
     requires range { Word.whole room < 2 ^ Word.BITS }
-    ensures none { IsTrue result → (Word.whole weight ≡ 0) ⊎ (Word.whole room < Word.whole weight) }
-    ensures some { result ≡ false → (0 < Word.whole weight) × (Word.whole weight ≤ Word.whole room) }
+    ensures some { IsTrue result → (0 < Word.whole weight) × (Word.whole weight ≤ Word.whole room) }
+    ensures none { result ≡ false → (Word.whole weight ≡ 0) ⊎ (Word.whole room < Word.whole weight) }
 {
     let last = weight.wrapping_minus(one);
-    room.is_at_most(last)
+    last.is_below(room)
 }
 
-/// Whether the row of this weight is the last one: it is if the given weight fills the quantiles, and no further one
-/// is inferred.
+/// Whether the row of a given weight that leaves no quantiles is the last one: it is if the weight fills the quantiles,
+/// and no further one is inferred.
 #[inline]
-pub(crate) fn is_given_last<Word: WholeNumber>(
+pub(crate) fn fills_all<Word: WholeNumber>(
     weight: Word,
     one: Word,
     room: Word,
@@ -137,6 +145,47 @@ fn words_needed<const PRECISION: usize>(announced: usize, infer_last: bool) -> u
     entries_announced::<PRECISION>(rows)
 }
 
+/// What takes left cumulatives, one after another.
+trait TakesLefts<Word>: Drop {
+    // These left cumulatives were taken, and no others.
+    ghost holds: { Self → List Word → Type 0 };
+
+    // So many more are taken without a request for memory.
+    ghost has_room: { Self → ℕ → Type 0 };
+
+    /// The same with one more.
+    fn with_left(self, left: Word) -> Result<Self, AllocError>
+        ensures held { IfOk result (λ t. (lefts : List Word) → holds self lefts → holds t (lefts ++ left ∷ [])) }
+        ensures room { IfOk result (λ t. (n : ℕ) → has_room self (n + 1) → has_room t n) }
+        ensures refused { IsErr result → ¬ (has_room self 1) };
+}
+
+impl<Word: Drop> TakesLefts<Word> for Vec<Word> {
+    ghost holds = { λ v lefts. v.items ≡ lefts };
+
+    ghost has_room = { λ v n. vec_len v + n ≤ vec_capacity v };
+
+    #[inline(always)]
+    fn with_left(self, left: Word) -> Result<Vec<Word>, AllocError> {
+        with_item(self, left)
+    }
+}
+
+/// Left cumulatives that are not stored, since their weights are judged alone.
+#[derive(Drop)]
+struct Unstored;
+
+impl<Word: Drop> TakesLefts<Word> for Unstored {
+    ghost holds = { λ _ _. ⊤ };
+
+    ghost has_room = { λ _ _. ⊤ };
+
+    #[inline(always)]
+    fn with_left(self, _left: Word) -> Result<Unstored, AllocError> {
+        Ok(self)
+    }
+}
+
 /// Whether a weight that leaves no quantiles is the last one, and fills them.
 #[inline(always)]
 fn is_end_of_given<Word: WholeNumber, Weights: Iterator<Item = Word>>(
@@ -154,49 +203,55 @@ fn is_end_of_given<Word: WholeNumber, Weights: Iterator<Item = Word>>(
     ensures bad { result ≡ false → IsNoLast (Word.whole weight) (Word.whole room) infer_last
         ⊎ ((Word.whole room < Word.whole weight) × (more : Word) × Weights.next_gives rest.old (Some more) rest.new) }
 {
-    if !is_given_last(weight, one, room, infer_last) {
+    if !fills_all(weight, one, room, infer_last) {
         return false;
     }
     rest.next().is_none()
 }
 
-/// The cdf with the total after it, if all quantiles are filled.
+/// Judges the weights of an iterator, and has the left cumulative of each row taken.
 #[inline(always)]
-fn finish<Word: WholeNumber, const PRECISION: usize>(
-    cdf: Vec<Word>,
-    is_whole: bool,
-) -> Result<Vec<Word>, ModelError>
-    requires { IsPrecision Word.BITS PRECISION }
-    ensures ok { IfOk result (λ v. (is_whole ≡ true) × AndTotal Word.whole Word.BITS PRECISION cdf.items v.items) }
-    ensures invalid { result ≡ Err ModelError.InvalidTable → is_whole ≡ false }
+fn lefts_taken<
+    Word: WholeNumber,
+    Weights: Iterator<Item = Word>,
+    Taken: TakesLefts<Word>,
+    const PRECISION: usize,
+>(mut taken: Taken, rest: &mut Weights, infer_last: bool) -> Result<Taken, ModelError>
+    requires precision { IsPrecision Word.BITS PRECISION }
+    requires none { Taken.holds taken [] }
+    requires goes { Weights.can_next rest.old }
+    requires ends { IsFinite (Weights.remaining rest.old) }
+    ensures ok { IfOk result (λ t. AreLeftsOf Weights.next_gives rest.old Word.whole Word.BITS PRECISION infer_last
+        (IsTaken Taken.holds Taken.has_room taken t)) }
+    ensures invalid { result ≡ Err ModelError.InvalidTable
+        → IsNoCdf Weights.next_gives rest.old Word.whole Word.BITS PRECISION infer_last }
+    ensures memory { result ≡ Err ModelError.OutOfMemory
+        → LacksRoom Weights.next_gives rest.old Word.whole PRECISION infer_last (Taken.has_room taken) }
 {
-    if !is_whole {
+    let one = Word::greatest_of_bits(1);
+    let mut left = Word::least();
+    let mut room = Word::greatest_of_bits(PRECISION);
+    'rows: while let Some(weight) = rest.next() {
+        taken = taken.with_left(left)?;
+        if !leaves_some(weight, one, room) {
+            if !is_end_of_given(rest, weight, one, room, infer_last) {
+                return Err(ModelError::InvalidTable);
+            }
+            return Ok(taken);
+        }
+        left = left.plus(weight);
+        room = room.minus(weight);
+    }
+    if !is_inferred_last(room, infer_last) {
         return Err(ModelError::InvalidTable);
     }
-    Ok(with_item(cdf, Word::wrapping_pow2(PRECISION))?)
-}
-
-/// The cdf with the row of the inferred weight and the total after it, if that weight is a word.
-#[inline(always)]
-fn finish_inferred<Word: WholeNumber, const PRECISION: usize>(
-    cdf: Vec<Word>,
-    left: Word,
-    is_word: bool,
-) -> Result<Vec<Word>, ModelError>
-    requires { IsPrecision Word.BITS PRECISION }
-    ensures ok { IfOk result (λ v. (is_word ≡ true) × AndTotal Word.whole Word.BITS PRECISION (cdf.items ++ left ∷ []) v.items) }
-    ensures invalid { result ≡ Err ModelError.InvalidTable → is_word ≡ false }
-{
-    if !is_word {
-        return Err(ModelError::InvalidTable);
-    }
-    finish::<Word, PRECISION>(with_item(cdf, left)?, true)
+    Ok(taken.with_left(left)?)
 }
 
 /// Fills an empty cdf from the weights of an iterator.
 #[inline(always)]
 fn fill_cdf<Word: WholeNumber, Weights: Iterator<Item = Word>, const PRECISION: usize>(
-    mut cdf: Vec<Word>,
+    cdf: Vec<Word>,
     rest: &mut Weights,
     infer_last: bool,
 ) -> Result<Vec<Word>, ModelError>
@@ -210,26 +265,8 @@ fn fill_cdf<Word: WholeNumber, Weights: Iterator<Item = Word>, const PRECISION: 
     ensures invalid { result ≡ Err ModelError.InvalidTable
         → IsNoCdf Weights.next_gives rest.old Word.whole Word.BITS PRECISION infer_last }
 {
-    let one = Word::greatest_of_bits(1);
-    let mut left = Word::least();
-    let mut room = Word::greatest_of_bits(PRECISION);
-    'rows: while let Some(weight) = rest.next() {
-        if cdf.len() == cdf.capacity() {
-            let mut full = cdf;
-            make_room(&mut full)?;
-            cdf = full;
-        }
-        cdf.push_reserved(left);
-        if leaves_none(weight, one, room) {
-            return finish::<Word, PRECISION>(
-                cdf,
-                is_end_of_given(rest, weight, one, room, infer_last),
-            );
-        }
-        left = left.plus(weight);
-        room = room.minus(weight);
-    }
-    finish_inferred::<Word, PRECISION>(cdf, left, is_inferred_last(room, infer_last))
+    let lefts = lefts_taken::<Word, Weights, Vec<Word>, PRECISION>(cdf, rest, infer_last)?;
+    Ok(with_item(lefts, Word::wrapping_pow2(PRECISION))?)
 }
 
 /// The cdf of these weights. The last weight may be inferred.
@@ -251,4 +288,46 @@ pub fn cdf_of<Word: WholeNumber, Weights: IntoIterator<Item = Word>, const PRECI
         words_needed::<PRECISION>(rest.size_hint().0, infer_last),
     )?;
     fill_cdf::<Word, Weights::IntoIter, PRECISION>(cdf, &mut rest, infer_last)
+}
+
+/// Gives a cdf the rows of other weights. The last weight may be inferred.
+///
+/// One pass over the weights judges them, and one writes. Memory is requested only if the cdf needs more than it has.
+pub fn refill_cdf<Word: WholeNumber, const PRECISION: usize>(
+    cdf: &mut Vec<Word>,
+    weights: &[Word],
+    infer_last: bool,
+) -> Result<(), ModelError>
+    requires { IsPrecision Word.BITS PRECISION }
+    ensures accepted { OnOk result (IsAccepted Word.BITS PRECISION (completed PRECISION infer_last (map Word.whole weights.now))) }
+    ensures ok { OnOk result (map Word.whole cdf.new.items
+        ≡ lefts_from 0 (completed PRECISION infer_last (map Word.whole weights.now)) ++ total_of Word.BITS PRECISION ∷ []) }
+    ensures invalid { result ≡ Err ModelError.InvalidTable
+        → ¬ (IsAccepted Word.BITS PRECISION (completed PRECISION infer_last (map Word.whole weights.now))) }
+    // Memory is refused only if the new cdf is longer.
+    ensures memory { result ≡ Err ModelError.OutOfMemory
+        → vec_len cdf.old < length (completed PRECISION infer_last (map Word.whole weights.now)) + 1 }
+    ensures err { OnErr result (cdf.new.items ≡ cdf.old.items) }
+{
+    let mut judged = weights.iter().copied();
+    lefts_taken::<Word, _, Unstored, PRECISION>(Unstored, &mut judged, infer_last)?;
+    let Some(words) = weights.len().checked_add(1 + usize::from(infer_last)) else {
+        return Err(ModelError::OutOfMemory);
+    };
+    if cdf.reserve(words.saturating_sub(cdf.len())).is_err() {
+        return Err(ModelError::OutOfMemory);
+    }
+    let alloc = *cdf.allocator();
+    let mut old = mem::replace(cdf, Vec::new(alloc));
+    old.clear();
+    let mut written = weights.iter().copied();
+    if let Ok(mut lefts) = lefts_taken::<Word, _, Vec<Word>, PRECISION>(
+        old,
+        &mut written,
+        infer_last,
+    ) {
+        lefts.push_reserved(Word::wrapping_pow2(PRECISION));
+        *cdf = lefts;
+    }
+    Ok(())
 }

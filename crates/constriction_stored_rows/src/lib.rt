@@ -13,7 +13,6 @@ mod filling;
 mod judging;
 mod paired;
 mod reading;
-mod refilling;
 mod slots;
 mod stored;
 mod uncompared;
@@ -24,11 +23,12 @@ pub use crate::ends::{
     cloned_row_by_words, cloned_row_in_cdf, end_in_walk, end_words_of, paired_row_at,
     paired_row_ending_at, with_cdf,
 };
-pub use crate::filling::{cdf_of, copy_of, entries_announced, rows_announced, with_item};
+pub use crate::filling::{
+    cdf_of, copy_of, entries_announced, refill_cdf, rows_announced, with_item,
+};
 pub use crate::judging::is_cdf;
 pub use crate::paired::{entries_cloned, has_symbol};
 pub use crate::reading::{TakesRows, rows_read};
-pub use crate::refilling::refill_cdf;
 pub use crate::slots::{row_in_slot, slot_probe, table_of_slots, words_of_table};
 pub use crate::stored::{cdf_row_at, contiguous_row_at};
 pub use crate::uncompared::entries_read;

@@ -9,7 +9,7 @@ ghost use Rattle.constriction_stored_rows.specs.private.Given.{GaveBothGood, Gav
 ghost use Rattle.constriction_stored_rows.specs.private.Reading.{TookRow, RefusedRow, IsReadWell, IsReadBadly, EndsWell, EndsBadly};
 ghost use Rattle.constriction_model.specs.Rows.{Row, rows_of, symbols_of};
 
-use crate::filling::{is_given_last, is_inferred_last, leaves_none};
+use crate::filling::{fills_all, is_inferred_last, leaves_some};
 use constriction_model::ModelError;
 use constriction_numbers::WholeNumber;
 
@@ -88,7 +88,7 @@ fn take_given_last<
         → EndsBadly Symbols.next_gives Weights.next_gives Stored.symbol_eq Stored.holds Word.whole Word.BITS PRECISION
         infer_last stored.old symbols.old left (Word.whole room) (Some weight) weights.old }
 {
-    if !is_given_last(weight, one, room, infer_last) {
+    if !fills_all(weight, one, room, infer_last) {
         return Err(ModelError::InvalidTable);
     }
     take_next::<Word, Symbol, Stored, Symbols>(stored, symbols, left, weight)?;
@@ -172,7 +172,7 @@ fn take_all<
     let mut left = Word::least();
     let mut room = Word::greatest_of_bits(PRECISION);
     'rows: while let Some(weight) = weights.next() {
-        if leaves_none(weight, one, room) {
+        if !leaves_some(weight, one, room) {
             return take_given_last::<Word, Symbol, Stored, Symbols, Weights, PRECISION>(
                 stored, symbols, weights, left, weight, one, room, infer_last,
             );

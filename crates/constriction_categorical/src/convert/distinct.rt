@@ -56,7 +56,7 @@ where
 {
     match uncompared_entries_of_model(alloc, model) {
         Ok(entries) => Ok(decoder_over(entries)),
-        Err(refused) => Err(refused),
+        Err(error) => Err(error),
     }
 }
 
@@ -79,6 +79,6 @@ where
 {
     match to_generic_decoder_model_of_distinct::<M, PRECISION>(alloc, model) {
         Ok(searching) => searching.into_lookup_decoder_model(alloc),
-        Err(refused) => Err(refused),
+        Err(error) => Err(error),
     }
 }

@@ -11,9 +11,9 @@ returns-in_err-entries g c = record {
     ok = search rules;
     invalid = λ h.
         let e : c.entries_read.result ≡ Err InvalidTable = search rules in
-        read-refused g.Probability.WholeNumber.whole g.Probability.WholeNumber.BITS g.row.PRECISION c.args.infer_last
-        (WasReadOf g.Symbols.IntoIterator.into_iter_gives g.Symbols.IntoIter.Iterator.next_gives c.args.symbols)
-        (WasReadOf g.Weights.IntoIterator.into_iter_gives g.Weights.IntoIter.Iterator.next_gives c.args.weights)
+        read-refused g.Probability.WholeNumber.whole g.Probability.WholeNumber.BITS g.row.PRECISION c.args.infer_last_probability
+        (WasReadOf g.S.IntoIterator.into_iter_gives g.S.IntoIter.Iterator.next_gives c.args.symbols)
+        (WasReadOf g.P.IntoIterator.into_iter_gives g.P.IntoIter.Iterator.next_gives c.args.probabilities)
         g.Symbol.PartialEq.eq (AreAccepted g.Symbol.PartialEq.eq g.Probability.WholeNumber.BITS g.row.PRECISION)
         (λ ss ws good. good) c.entries_read.result c.entries_read.ensures e;
   };
@@ -26,9 +26,9 @@ returns-then-not-apart g c = record {
   made = record {
     ok = tt;
     invalid = λ _.
-        judged-refused g.Probability.WholeNumber.whole g.Probability.WholeNumber.BITS g.row.PRECISION c.args.infer_last
-        (WasReadOf g.Symbols.IntoIterator.into_iter_gives g.Symbols.IntoIter.Iterator.next_gives c.args.symbols)
-        (WasReadOf g.Weights.IntoIterator.into_iter_gives g.Weights.IntoIter.Iterator.next_gives c.args.weights)
+        judged-refused g.Probability.WholeNumber.whole g.Probability.WholeNumber.BITS g.row.PRECISION c.args.infer_last_probability
+        (WasReadOf g.S.IntoIterator.into_iter_gives g.S.IntoIter.Iterator.next_gives c.args.symbols)
+        (WasReadOf g.P.IntoIterator.into_iter_gives g.P.IntoIter.Iterator.next_gives c.args.probabilities)
         g.Symbol.PartialEq.eq c.in_ok-entries.entries c.in_ok-entries.ensures (IsDistinct g.Symbol.PartialEq.eq)
         (AreAccepted g.Symbol.PartialEq.eq g.Probability.WholeNumber.BITS g.row.PRECISION) (λ ss ws good. good.distinct)
         (λ good.
@@ -42,8 +42,8 @@ returns-then-not-apart g c = record {
 pub returns : goal.returns
 returns g c =
     let apart = rw c.deref.ensures.value at (c.in_ok-apart.ensures.0 c.if-not-apart.false) in
-    judged-makes g.Probability.WholeNumber.whole g.Probability.WholeNumber.BITS g.row.PRECISION c.args.infer_last
-    (WasReadOf g.Symbols.IntoIterator.into_iter_gives g.Symbols.IntoIter.Iterator.next_gives c.args.symbols)
-    (WasReadOf g.Weights.IntoIterator.into_iter_gives g.Weights.IntoIter.Iterator.next_gives c.args.weights)
+    judged-makes g.Probability.WholeNumber.whole g.Probability.WholeNumber.BITS g.row.PRECISION c.args.infer_last_probability
+    (WasReadOf g.S.IntoIterator.into_iter_gives g.S.IntoIter.Iterator.next_gives c.args.symbols)
+    (WasReadOf g.P.IntoIterator.into_iter_gives g.P.IntoIter.Iterator.next_gives c.args.probabilities)
     g.Symbol.PartialEq.eq c.in_ok-entries.entries c.in_ok-entries.ensures (IsDistinct g.Symbol.PartialEq.eq)
     (AreAccepted g.Symbol.PartialEq.eq g.Probability.WholeNumber.BITS g.row.PRECISION) (λ ss ws good _. good) apart apart

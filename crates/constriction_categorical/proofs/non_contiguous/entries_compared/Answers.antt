@@ -19,21 +19,21 @@ rows_read-requires-clause-symbols_end g c =
 
 pub rows_read-requires-clause-weights_go : goal.rows_read-requires-clause-weights_go
 rows_read-requires-clause-weights_go g c =
-    (c.requires.weights_end c.into_iter-weights.result c.into_iter-weights.ensures.into_iter_gives).0
+    (c.requires.weights_end c.into_iter-probabilities.result c.into_iter-probabilities.ensures.into_iter_gives).0
 
 pub rows_read-requires-clause-weights_end : goal.rows_read-requires-clause-weights_end
 rows_read-requires-clause-weights_end g c =
-    (c.requires.weights_end c.into_iter-weights.result c.into_iter-weights.ensures.into_iter_gives).1
+    (c.requires.weights_end c.into_iter-probabilities.result c.into_iter-probabilities.ensures.into_iter_gives).1
 
 pub returns : goal.returns
 returns g c =
-    all-makes g.Probability.WholeNumber.whole g.Probability.WholeNumber.BITS g.row.PRECISION c.args.infer_last
-    (WasReadOf g.Symbols.IntoIterator.into_iter_gives g.Symbols.IntoIter.Iterator.next_gives c.args.symbols)
-    (WasReadOf g.Weights.IntoIterator.into_iter_gives g.Weights.IntoIter.Iterator.next_gives c.args.weights)
+    all-makes g.Probability.WholeNumber.whole g.Probability.WholeNumber.BITS g.row.PRECISION c.args.infer_last_probability
+    (WasReadOf g.S.IntoIterator.into_iter_gives g.S.IntoIter.Iterator.next_gives c.args.symbols)
+    (WasReadOf g.P.IntoIterator.into_iter_gives g.P.IntoIter.Iterator.next_gives c.args.probabilities)
     g.Symbol.PartialEq.eq c.rows_read.result
-    (read-of_both g.Symbols.IntoIterator.into_iter_gives g.Symbols.IntoIter.Iterator.next_gives c.args.symbols
-    g.Weights.IntoIterator.into_iter_gives g.Weights.IntoIter.Iterator.next_gives c.args.weights
-    (AreAccepted g.Symbol.PartialEq.eq g.Probability.WholeNumber.BITS g.row.PRECISION) (completed g.row.PRECISION c.args.infer_last)
+    (read-of_both g.S.IntoIterator.into_iter_gives g.S.IntoIter.Iterator.next_gives c.args.symbols
+    g.P.IntoIterator.into_iter_gives g.P.IntoIter.Iterator.next_gives c.args.probabilities
+    (AreAccepted g.Symbol.PartialEq.eq g.Probability.WholeNumber.BITS g.row.PRECISION) (completed g.row.PRECISION c.args.infer_last_probability)
     g.Probability.WholeNumber.whole (λ v ss ws. HoldsRows g.Probability.WholeNumber.whole v.items (rows_of ss ws))
-    c.into_iter-symbols.result c.into_iter-symbols.ensures.into_iter_gives c.into_iter-weights.result
-    c.into_iter-weights.ensures.into_iter_gives c.rows_read.result c.rows_read.ensures.ok c.rows_read.ensures.invalid)
+    c.into_iter-symbols.result c.into_iter-symbols.ensures.into_iter_gives c.into_iter-probabilities.result
+    c.into_iter-probabilities.ensures.into_iter_gives c.rows_read.result c.rows_read.ensures.ok c.rows_read.ensures.invalid)

@@ -25,12 +25,12 @@ rows-init g c = (
   },
 )
 
-pub returns-then-leaves_none-clause-ok : goal.returns-then-leaves_none-clause-ok
-returns-then-leaves_none-clause-ok g c = λ ok.
+pub returns-then-not-leaves_some-clause-ok : goal.returns-then-not-leaves_some-clause-ok
+returns-then-not-leaves_some-clause-ok g c = λ ok.
     c.take_given_last.ensures.ok ok _ _ c.rows.weights c.rows.invariant.4 c.in-Some.ensures.steps
 
-pub returns-then-leaves_none-clause-invalid : goal.returns-then-leaves_none-clause-invalid
-returns-then-leaves_none-clause-invalid g c = λ e.
+pub returns-then-not-leaves_some-clause-invalid : goal.returns-then-not-leaves_some-clause-invalid
+returns-then-not-leaves_some-clause-invalid g c = λ e.
     c.take_given_last.ensures.invalid e _ _ c.rows.weights c.rows.invariant.4 c.in-Some.ensures.steps
 
 pub returns-in_err-take_next-clause-invalid : goal.returns-in_err-take_next-clause-invalid
@@ -49,7 +49,7 @@ rows-preserved g c =
       symbols.1,
       read-more g.met.Stored.TakesRows.symmetry_law c.rows.invariant.4 c.take_next.new.stored c.take_next.new.symbols c.next.new.self c.in-Some.weight c.plus-left.result
           (g.Word.WholeNumber.whole c.minus-room.result) c.in-Some.ensures.steps (c.in_ok-take_next.ensures.took (refl {a = true}))
-          c.greatest_of_bits-room.ensures.within (c.leaves_none.ensures.some c.if-leaves_none.false) c.plus-left.ensures
+          c.greatest_of_bits-room.ensures.within (c.leaves_some.ensures.some c.if-not-leaves_some.false) c.plus-left.ensures
           c.minus-room.ensures,
     )
 
@@ -73,11 +73,11 @@ greatest_of_bits-room-requires-clause-fits g c = c.requires.precision.fits
 pub next-requires : goal.next-requires
 next-requires g c = c.rows.invariant.0
 
-pub leaves_none-requires-clause-one : goal.leaves_none-requires-clause-one
-leaves_none-requires-clause-one g c = one_is (g.Word.WholeNumber.whole c.greatest_of_bits-one.result) c.greatest_of_bits-one.ensures.value
+pub leaves_some-requires-clause-one : goal.leaves_some-requires-clause-one
+leaves_some-requires-clause-one g c = one_is (g.Word.WholeNumber.whole c.greatest_of_bits-one.result) c.greatest_of_bits-one.ensures.value
 
-pub leaves_none-requires-clause-range : goal.leaves_none-requires-clause-range
-leaves_none-requires-clause-range g c =
+pub leaves_some-requires-clause-range : goal.leaves_some-requires-clause-range
+leaves_some-requires-clause-range g c =
     room_below (g.Word.WholeNumber.whole c.rows.left) (g.Word.WholeNumber.whole c.rows.room) (2 ^ g.row.PRECISION) (2 ^ g.Word.WholeNumber.BITS)
     c.rows.invariant.4.begun.rest c.greatest_of_bits-room.ensures.within
 
@@ -85,16 +85,16 @@ pub plus-left-requires : goal.plus-left-requires
 plus-left-requires g c =
     end_below (g.Word.WholeNumber.whole c.rows.left) (g.Word.WholeNumber.whole c.in-Some.weight) (g.Word.WholeNumber.whole c.rows.room)
     (2 ^ g.row.PRECISION) (2 ^ g.Word.WholeNumber.BITS)
-    c.rows.invariant.4.begun.rest c.greatest_of_bits-room.ensures.within (c.leaves_none.ensures.some c.if-leaves_none.false).1
+    c.rows.invariant.4.begun.rest c.greatest_of_bits-room.ensures.within (c.leaves_some.ensures.some c.if-not-leaves_some.false).1
 
 pub minus-room-requires : goal.minus-room-requires
-minus-room-requires g c = (c.leaves_none.ensures.some c.if-leaves_none.false).1
+minus-room-requires g c = (c.leaves_some.ensures.some c.if-not-leaves_some.false).1
 
 pub take_given_last-requires-clause-one : goal.take_given_last-requires-clause-one
 take_given_last-requires-clause-one g c = one_is (g.Word.WholeNumber.whole c.greatest_of_bits-one.result) c.greatest_of_bits-one.ensures.value
 
 pub take_given_last-requires-clause-none_left : goal.take_given_last-requires-clause-none_left
-take_given_last-requires-clause-none_left g c = c.leaves_none.ensures.none c.if-leaves_none.true
+take_given_last-requires-clause-none_left g c = c.leaves_some.ensures.none c.if-not-leaves_some.true
 
 pub take_given_last-requires-clause-symbols_go : goal.take_given_last-requires-clause-symbols_go
 take_given_last-requires-clause-symbols_go g c = c.rows.invariant.2
@@ -106,7 +106,7 @@ pub take_given_last-requires-clause-weights_go : goal.take_given_last-requires-c
 take_given_last-requires-clause-weights_go g c = (c.in-Some.ensures.goes.on c.rows.invariant.1).0
 
 pub take_next-requires-clause-positive : goal.take_next-requires-clause-positive
-take_next-requires-clause-positive g c = (c.leaves_none.ensures.some c.if-leaves_none.false).0
+take_next-requires-clause-positive g c = (c.leaves_some.ensures.some c.if-not-leaves_some.false).0
 
 pub take_next-requires-clause-goes : goal.take_next-requires-clause-goes
 take_next-requires-clause-goes g c = c.rows.invariant.2

@@ -1,7 +1,7 @@
 use Rattle.std.proofs.Common.{◌≡◌, ◌+◌, ◌%◌, ◌^◌, ◌≤◌, true, false, subst, arith, inl, inr}
 use Rattle.std.proofs.lemmas.Bool.{cases_lt}
 use Rattle.constriction_stored_rows.proofs.FillLemmas.{wrapped}
-use Rattle.constriction_stored_rows.proofs.filling.is_given_last.Goals as goal
+use Rattle.constriction_stored_rows.proofs.filling.fills_all.Goals as goal
 
 pub returns-clause-filled : goal.returns-clause-filled
 returns-clause-filled g c = λ h.

@@ -1,0 +1,25 @@
+use Rattle.std.proofs.Common.{◌≡◌, ◌+◌, ◌<◌, length, map, arith}
+use Rattle.std.proofs.lemmas.Grind.{common_steps}
+use Rattle.std.proofs.lemmas.List.{length-map}
+use Rattle.constriction_stored_rows.specs.Stored.{with_total}
+use Rattle.constriction_stored_rows.proofs.EndLemmas.{among-long, among-end}
+use Rattle.constriction_stored_rows.proofs.ends.end_in_cdf.Goals as goal
+
+pub bounds-cdf-index : goal.bounds-cdf-index
+bounds-cdf-index g c =
+    let whole = g.Word.WholeNumber.whole in
+    let known = λ (x : g.row.Word.Denot × g.row.Symbol.Denot). whole x.0 in
+    let some : 0 < length (map whole c.args.cdf.now) = grind (arith, common_steps, length-map c.args.cdf.now whole) in
+    omega (
+      arith,
+      length-map c.args.entries.now known,
+      among-long g.Word.WholeNumber.BITS g.row.PRECISION (map known c.args.entries.now) whole c.args.cdf.now (c.requires.cdf some),
+    )
+
+pub returns : goal.returns
+returns g c =
+    let whole = g.Word.WholeNumber.whole in
+    let known = λ (x : g.row.Word.Denot × g.row.Symbol.Denot). whole x.0 in
+    let some : 0 < length (map whole c.args.cdf.now) = grind (arith, common_steps, length-map c.args.cdf.now whole) in
+    among-end g.Word.WholeNumber.BITS g.row.PRECISION (map known c.args.entries.now) whole c.args.cdf.now (c.requires.cdf some) c.args.index _
+    (omega (arith, length-map c.args.entries.now known)) c.index-cdf-index.is
