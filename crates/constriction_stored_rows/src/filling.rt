@@ -131,20 +131,6 @@ pub fn copy_of<Word: Copy>(alloc: Global, words: &[Word]) -> Result<Vec<Word>, A
     Ok(copy)
 }
 
-/// How many words to request memory for at once: one for each announced weight, one for the inferred
-/// weight, and one for the total.
-#[inline]
-fn words_needed<const PRECISION: usize>(announced: usize, infer_last: bool) -> usize
-    ensures { result ≤ 2 ^ PRECISION + 1 }
-{
-    let rows = if infer_last {
-        announced.saturating_add(1)
-    } else {
-        announced
-    };
-    entries_announced::<PRECISION>(rows)
-}
-
 /// What takes left cumulatives, one after another.
 trait TakesLefts<Word>: Drop {
     // These left cumulatives were taken, and no others.
@@ -283,10 +269,8 @@ pub fn cdf_of<Word: WholeNumber, Weights: IntoIterator<Item = Word>, const PRECI
         × IsNoCdf Weights.IntoIter.next_gives it Word.whole Word.BITS PRECISION infer_last }
 {
     let mut rest = weights.into_iter();
-    let cdf = Vec::with_capacity(
-        alloc,
-        words_needed::<PRECISION>(rest.size_hint().0, infer_last),
-    )?;
+    let rows = rest.size_hint().0.saturating_add(usize::from(infer_last));
+    let cdf = Vec::with_capacity(alloc, entries_announced::<PRECISION>(rows))?;
     fill_cdf::<Word, Weights::IntoIter, PRECISION>(cdf, &mut rest, infer_last)
 }
 
