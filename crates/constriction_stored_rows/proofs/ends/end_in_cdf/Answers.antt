@@ -1,7 +1,6 @@
-use Rattle.std.proofs.Common.{◌≡◌, ◌+◌, ◌<◌, length, map, arith}
+use Rattle.std.proofs.Common.{◌<◌, length, map, arith}
 use Rattle.std.proofs.lemmas.Grind.{common_steps}
 use Rattle.std.proofs.lemmas.List.{length-map}
-use Rattle.constriction_stored_rows.specs.Stored.{with_total}
 use Rattle.constriction_stored_rows.proofs.EndLemmas.{among-long, among-end}
 use Rattle.constriction_stored_rows.proofs.ends.end_in_cdf.Goals as goal
 
