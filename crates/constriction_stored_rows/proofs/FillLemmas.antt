@@ -1,5 +1,5 @@
 -- Filling a cdf row by row.
-use Rattle.std.specs.Prelude.{◌≡◌, ℕ, ◌+◌, ◌-◌, ◌%◌, ◌^◌, ◌<◌, ◌≤◌, ◌⊎◌, Bool, true, false, List, [], ◌∷◌, ◌++◌, length, map, sum, All, Option, Some, None, if◌then◌else◌}
+use Rattle.std.specs.Prelude.{◌≡◌, ℕ, ◌+◌, ◌-◌, ◌%◌, ◌^◌, ◌<◌, ◌≤◌, ◌⊎◌, Bool, true, false, List, [], ◌∷◌, ◌++◌, length, map, sum, All, Option, Some, None}
 use Rattle.std.proofs.Common.{suc, zero, refl, ap, sym, subst, ◌∙◌, arith, inl, inr}
 use Rattle.std.proofs.Math.Nat.{mod-eq_of_lt, mod_self}
 use Rattle.std.proofs.lemmas.Bool.{cases_lt}
@@ -10,7 +10,7 @@ use Rattle.constriction_model.specs.Acceptance.{IsAccepted, completed}
 use Rattle.constriction_model.specs.lemmas.Walks.{yields-more}
 use Rattle.constriction_model.specs.Precision.{IsPrecision}
 use Rattle.constriction_stored_rows.specs.Stored.{lefts_from, total_of}
-use Rattle.constriction_stored_rows.specs.private.Filling.{AreLeftsOf, IsCdfBegun, IsFilled, IsRowEnd, IsTaken, LacksRoom}
+use Rattle.constriction_stored_rows.specs.private.Filling.{AreLeftsOf, IsCdfBegun, IsFilled, IsRowEnd}
 use Rattle.constriction_stored_rows.specs.Ends.{FillsAll, IsNoLast, IsNoneInferred, IsCdfOf, IsNoCdf}
 
 -- one left cumulative more
@@ -21,20 +21,10 @@ lefts_from-push l (v ∷ ws) w =
     (lefts_from-push (l + v) ws w
     ∙ ap (λ x. lefts_from (l + v) ws ++ x ∷ []) (omega (arith, sum_by-cons (λ x. x) v ws)))
 
--- there are as many left cumulatives as weights
-pub length-lefts_from : (l : ℕ) (ws : List ℕ) → length (lefts_from l ws) ≡ length ws
-length-lefts_from l [] = refl
-length-lefts_from l (w ∷ ws) = ap suc (length-lefts_from (l + w) ws)
-
--- there is a row for each given weight, and one for an inferred one
-pub rows-many : (precision : ℕ) (infer : Bool) (ws : List ℕ)
-    → length (completed precision infer ws) ≡ length ws + (if infer then 1 else 0)
-rows-many precision false ws = omega arith
-rows-many precision true ws = length_push ws (2 ^ precision - sum ws)
-
 -- completed weights are at least as many as the given ones
 pub length-completed : (precision : ℕ) (infer : Bool) (ws : List ℕ) → length ws ≤ length (completed precision infer ws)
-length-completed precision infer ws = omega (arith, rows-many precision infer ws)
+length-completed precision false ws = omega arith
+length-completed precision true ws = omega (arith, length_push ws (2 ^ precision - sum ws))
 
 module _ {W : Type 0} (whole : W → ℕ) (bits precision : ℕ) where
   pub filled-none : (z : W) → whole z ≡ 0 → 0 < 2 ^ precision → IsFilled whole bits precision [] [] (Some z)
@@ -215,24 +205,6 @@ room_below left room all bits is narrow = omega arith
 pub end_below : (left weight room all bits : ℕ) → left + room + 1 ≡ all → all ≤ bits → weight ≤ room → left + weight < bits
 end_below left weight room all bits is narrow less = omega arith
 
--- what has taken left cumulatives takes no more, or one more
-module _ {T W : Type 0} (holds : T → List W → Type 0) (has_room : T → ℕ → Type 0) where
-  pub taken-none : (before : T) → holds before [] → IsTaken holds has_room before before []
-  taken-none before none = record {
-    held = none;
-    room = λ n has. let e : n + 0 ≡ n = omega arith in subst (has_room before) e has;
-  }
-
-  pub taken-more : (before now after : T) (lefts : List W) (left : W) → IsTaken holds has_room before now lefts
-      → ((ls : List W) → holds now ls → holds after (ls ++ left ∷ [])) → ((n : ℕ) → has_room now (n + 1) → has_room after n)
-      → IsTaken holds has_room before after (lefts ++ left ∷ [])
-  taken-more before now after lefts left t held room = record {
-    held = held lefts t.held;
-    room = λ n has.
-        let e : n + length (lefts ++ left ∷ []) ≡ n + 1 + length lefts = omega (arith, length_push lefts left) in
-        room n (t.room (n + 1) (subst (has_room before) e has));
-  }
-
 pub begun-none : {S W : Type 0} (steps : S → Option W → S → Type 0) (it : S) (whole : W → ℕ) (bits precision : ℕ) (cdf : List W)
     (left : W) (room : ℕ) → cdf ≡ [] → whole left ≡ 0 → room + 1 ≡ 2 ^ precision
     → IsCdfBegun steps it whole bits precision [] cdf it left room
@@ -310,44 +282,6 @@ module _ {S W : Type 0} {steps : S → Option W → S → Type 0} {it : S} {whol
       let inferred : infer ≡ true = word.0 in
       let good = inferred-accepted word.1 in
       (weights, (s', (s, t.given, none)), rw inferred (good.0, cdf ++ left ∷ [], good.1, taken))
-
-  -- there are as many left cumulatives as weights
-  begun-long : length cdf ≡ length weights
-  begun-long =
-      omega (
-        arith,
-        length-map cdf whole,
-        length-map weights whole,
-        ap length t.filled.lefts,
-        length-lefts_from 0 (map whole weights),
-      )
-
-  -- no room for one more row, of a given weight or of the inferred one
-  pub begun-full_given : (infer : Bool) (s' : S) (w : W) → steps s (Some w) s' → (HasRoom Now : ℕ → Type 0)
-      → ((n : ℕ) → HasRoom (n + length cdf) → Now n) → ¬ (Now 1) → LacksRoom steps it whole precision infer HasRoom
-  begun-full_given infer s' w sw HasRoom Now kept full =
-      let given = yields-more steps it weights s w s' t.given sw in
-      let many : length (map whole (weights ++ w ∷ [])) ≡ 1 + length cdf =
-      omega (arith, length-map (weights ++ w ∷ []) whole, length_push weights w, begun-long) in (
-        weights ++ w ∷ [],
-        s',
-        given,
-        1 + length cdf,
-        omega (arith, many, length-completed precision infer (map whole (weights ++ w ∷ []))),
-        λ room. full (kept 1 room),
-      )
-
-  pub begun-full_inferred : (infer : Bool) → infer ≡ true → (HasRoom Now : ℕ → Type 0)
-      → ((n : ℕ) → HasRoom (n + length cdf) → Now n) → ¬ (Now 1) → LacksRoom steps it whole precision infer HasRoom
-  begun-full_inferred infer e HasRoom Now kept full =
-      let many : length (completed precision infer (map whole weights)) ≡ 1 + length cdf =
-      rw e (omega (
-        arith,
-        length_push (map whole weights) (2 ^ precision - sum (map whole weights)),
-        length-map weights whole,
-        begun-long,
-      )) in
-      (weights, s, t.given, 1 + length cdf, omega (arith, many), λ room. full (kept 1 room))
 
   pub begun-bad_inferred : (infer : Bool) (s' : S) → steps s None s' → IsNoneInferred bits room infer
       → IsNoCdf steps it whole bits precision infer

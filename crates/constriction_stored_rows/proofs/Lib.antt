@@ -2,13 +2,13 @@ pub mod AnnouncedLemmas
 pub mod ApartLemmas
 pub mod EndLemmas
 pub mod FillLemmas
-pub mod GivenLemmas
 pub mod JudgeLemmas
 pub mod MadeLemmas
 pub mod OrderLemmas
 pub mod PairedLemmas
 pub mod ProbeLemmas
 pub mod ReadLemmas
+pub mod RefillLemmas
 pub mod SeenLemmas
 pub mod SlotFilling
 pub mod SlotLemmas

@@ -1,13 +1,13 @@
 //! Filling the quantiles below `2^PRECISION` with rows, one after another.
 
-ghost use Rattle.std.specs.Prelude.{◌≡◌, ◌+◌, ◌^◌, ◌<◌, ◌≤◌, ◌⊎◌, ⊤, ℕ, List, [], ◌∷◌, ◌++◌, length, map, Some, None, IfOk, IsErr, OnOk, OnErr, IsTrue, true, false, min};
+ghost use Rattle.std.specs.Prelude.{◌≡◌, ◌+◌, ◌^◌, ◌<◌, ◌≤◌, ◌⊎◌, ⊤, ℕ, List, [], ◌∷◌, ◌++◌, length, map, sum, Some, None, IfOk, IsErr, OnOk, OnErr, IsTrue, true, false, min};
 ghost use Rattle.std.specs.Vec.{vec_len, vec_capacity};
 ghost use Rattle.std.specs.Iterator.{IsFinite, IsFiniteIterable};
 ghost use Rattle.constriction_model.specs.Acceptance.{completed, IsAccepted};
 ghost use Rattle.constriction_model.specs.Precision.{IsPrecision};
 ghost use Rattle.constriction_stored_rows.specs.Ends.{FillsAll, IsNoLast, IsNoneInferred, IsCdfOf, IsNoCdf};
 ghost use Rattle.constriction_stored_rows.specs.Stored.{lefts_from, total_of};
-ghost use Rattle.constriction_stored_rows.specs.private.Filling.{AreLeftsOf, IsTaken, LacksRoom};
+ghost use Rattle.constriction_stored_rows.specs.private.Filling.{AreLeftsOf};
 
 use constriction_model::ModelError;
 use constriction_numbers::WholeNumber;
@@ -19,9 +19,7 @@ use std::mem;
 #[inline(never)]
 fn make_room<T: Drop>(items: &mut Vec<T>) -> Result<(), AllocError>
     ensures same { items.new.items ≡ items.old.items }
-    ensures len { vec_len items.new ≡ vec_len items.old }
     ensures room { IfOk result (λ _. vec_len items.new < vec_capacity items.new) }
-    ensures capacity { vec_capacity items.old ≤ vec_capacity items.new }
 {
     items.reserve(1)
 }
@@ -33,9 +31,7 @@ fn make_room<T: Drop>(items: &mut Vec<T>) -> Result<(), AllocError>
 /// each item.
 #[inline(always)]
 pub fn with_item<T: Drop>(mut items: Vec<T>, item: T) -> Result<Vec<T>, AllocError>
-    ensures items { IfOk result (λ v. v.items ≡ items.items ++ item ∷ []) }
-    ensures room { IfOk result (λ v. (vec_len v ≡ vec_len items + 1) × (vec_capacity items ≤ vec_capacity v)) }
-    ensures full { IsErr result → vec_len items ≡ vec_capacity items }
+    ensures { IfOk result (λ v. v.items ≡ items.items ++ item ∷ []) }
 {
     if items.len() == items.capacity() {
         let mut full = items;
@@ -136,20 +132,19 @@ trait TakesLefts<Word>: Drop {
     // These left cumulatives were taken, and no others.
     ghost holds: { Self → List Word → Type 0 };
 
-    // So many more are taken without a request for memory.
-    ghost has_room: { Self → ℕ → Type 0 };
+    // Whether memory may be refused.
+    ghost may_refuse: { Type 0 };
 
     /// The same with one more.
     fn with_left(self, left: Word) -> Result<Self, AllocError>
         ensures held { IfOk result (λ t. (lefts : List Word) → holds self lefts → holds t (lefts ++ left ∷ [])) }
-        ensures room { IfOk result (λ t. (n : ℕ) → has_room self (n + 1) → has_room t n) }
-        ensures refused { IsErr result → ¬ (has_room self 1) };
+        ensures refused { IsErr result → may_refuse };
 }
 
 impl<Word: Drop> TakesLefts<Word> for Vec<Word> {
     ghost holds = { λ v lefts. v.items ≡ lefts };
 
-    ghost has_room = { λ v n. vec_len v + n ≤ vec_capacity v };
+    ghost may_refuse = { ⊤ };
 
     #[inline(always)]
     fn with_left(self, left: Word) -> Result<Vec<Word>, AllocError> {
@@ -164,7 +159,7 @@ struct Unstored;
 impl<Word: Drop> TakesLefts<Word> for Unstored {
     ghost holds = { λ _ _. ⊤ };
 
-    ghost has_room = { λ _ _. ⊤ };
+    ghost may_refuse = { ⊥ };
 
     #[inline(always)]
     fn with_left(self, _left: Word) -> Result<Unstored, AllocError> {
@@ -207,12 +202,11 @@ fn lefts_taken<
     requires none { Taken.holds taken [] }
     requires goes { Weights.can_next rest.old }
     requires ends { IsFinite (Weights.remaining rest.old) }
-    ensures ok { IfOk result (λ t. AreLeftsOf Weights.next_gives rest.old Word.whole Word.BITS PRECISION infer_last
-        (IsTaken Taken.holds Taken.has_room taken t)) }
+    ensures ok { IfOk result (λ t.
+        AreLeftsOf Weights.next_gives rest.old Word.whole Word.BITS PRECISION infer_last (Taken.holds t)) }
     ensures invalid { result ≡ Err ModelError.InvalidTable
         → IsNoCdf Weights.next_gives rest.old Word.whole Word.BITS PRECISION infer_last }
-    ensures memory { result ≡ Err ModelError.OutOfMemory
-        → LacksRoom Weights.next_gives rest.old Word.whole PRECISION infer_last (Taken.has_room taken) }
+    ensures memory { result ≡ Err ModelError.OutOfMemory → Taken.may_refuse }
 {
     let one = Word::greatest_of_bits(1);
     let mut left = Word::least();
@@ -274,6 +268,47 @@ pub fn cdf_of<Word: WholeNumber, Weights: IntoIterator<Item = Word>, const PRECI
     fill_cdf::<Word, Weights::IntoIter, PRECISION>(cdf, &mut rest, infer_last)
 }
 
+/// The weights of all rows but the last one.
+fn before_last<'w, Word: WholeNumber, const PRECISION: usize>(
+    weights: &'w [Word],
+    infer_last: bool,
+) -> &'w [Word]
+    requires { IsAccepted Word.BITS PRECISION (completed PRECISION infer_last (map Word.whole weights.now)) }
+    ensures before { (last : ℕ) × (completed PRECISION infer_last (map Word.whole weights.now) ≡ map Word.whole result.now ++ last ∷ []) }
+    ensures some_left { sum (map Word.whole result.now) < 2 ^ PRECISION }
+{
+    if infer_last {
+        return weights;
+    }
+    let Some((_, before)) = weights.split_last() else {
+        return weights;
+    };
+    before
+}
+
+/// The cdf of the rows of these weights and of a last row, which takes the other quantiles. It is written over a cdf with
+/// room for it.
+fn rewritten<Word: WholeNumber, const PRECISION: usize>(
+    mut cdf: Vec<Word>,
+    weights: &[Word],
+) -> Vec<Word>
+    requires precision { IsPrecision Word.BITS PRECISION }
+    requires some_left { sum (map Word.whole weights.now) < 2 ^ PRECISION }
+    requires room { length weights.now + 2 ≤ vec_capacity cdf }
+    ensures { map Word.whole result.items ≡ (lefts_from 0 (map Word.whole weights.now) ++ sum (map Word.whole weights.now) ∷ [])
+        ++ total_of Word.BITS PRECISION ∷ [] }
+{
+    let mut left = Word::least();
+    cdf.clear();
+    cdf.push_reserved(left);
+    for weight in weights {
+        left = left.plus(*weight);
+        cdf.push_reserved(left);
+    }
+    cdf.push_reserved(Word::wrapping_pow2(PRECISION));
+    cdf
+}
+
 /// Gives a cdf the rows of other weights. The last weight may be inferred.
 ///
 /// One pass over the weights judges them, and one writes. Memory is requested only if the cdf needs more than it has.
@@ -295,23 +330,15 @@ pub fn refill_cdf<Word: WholeNumber, const PRECISION: usize>(
 {
     let mut judged = weights.iter().copied();
     lefts_taken::<Word, _, Unstored, PRECISION>(Unstored, &mut judged, infer_last)?;
-    let Some(words) = weights.len().checked_add(1 + usize::from(infer_last)) else {
+    let before = before_last::<Word, PRECISION>(weights, infer_last);
+    let Some(words) = before.len().checked_add(2) else {
         return Err(ModelError::OutOfMemory);
     };
     if cdf.reserve(words.saturating_sub(cdf.len())).is_err() {
         return Err(ModelError::OutOfMemory);
     }
     let alloc = *cdf.allocator();
-    let mut old = mem::replace(cdf, Vec::new(alloc));
-    old.clear();
-    let mut written = weights.iter().copied();
-    if let Ok(mut lefts) = lefts_taken::<Word, _, Vec<Word>, PRECISION>(
-        old,
-        &mut written,
-        infer_last,
-    ) {
-        lefts.push_reserved(Word::wrapping_pow2(PRECISION));
-        *cdf = lefts;
-    }
+    let old = mem::replace(cdf, Vec::new(alloc));
+    *cdf = rewritten::<Word, PRECISION>(old, before);
     Ok(())
 }

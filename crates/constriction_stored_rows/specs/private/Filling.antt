@@ -1,5 +1,5 @@
 -- How far the quantiles below 2 ^ precision are filled.
-use Rattle.std.specs.Prelude.{◌≡◌, ℕ, ◌+◌, ◌^◌, ◌<◌, ◌≤◌, Bool, List, All, length, map, sum, Option, Some, None, IfSome}
+use Rattle.std.specs.Prelude.{◌≡◌, ℕ, ◌+◌, ◌^◌, ◌<◌, Bool, List, All, map, sum, Option, Some, None, IfSome}
 use Rattle.std.specs.Iterator.{Yields}
 use Rattle.std.specs.List.{AllZip}
 use Rattle.std.specs.Option.{option_map}
@@ -36,23 +36,12 @@ pub record IsCdfBegun {S Word : Type 0} (steps : S → Option Word → S → Typ
   pub filled : IsFilled whole bits precision weights cdf (Some left)
   pub rest : whole left + room + 1 ≡ 2 ^ precision
 
--- these left cumulatives were taken, for which room was needed
-pub record IsTaken {T Word : Type 0} (holds : T → List Word → Type 0) (has_room : T → ℕ → Type 0) (before after : T)
-    (lefts : List Word) : Type 0 where
-  pub held : holds after lefts
-  pub room : (n : ℕ) → has_room before (n + length lefts) → has_room after n
-
 module _ {S Word : Type 0} (steps : S → Option Word → S → Type 0) (it : S) (whole : Word → ℕ) where
   -- the iterator gave accepted weights, and the left cumulatives of their rows were taken
   abbrev pub AreLeftsOf : (bits precision : ℕ) → Bool → (List Word → Type 0) → Type 0
   AreLeftsOf bits precision infer Taken = GaveGood steps it (λ ws.
       IsAccepted bits precision (completed precision infer (map whole ws))
       × (lefts : List Word) × (map whole lefts ≡ lefts_from 0 (completed precision infer (map whole ws))) × Taken lefts)
-
-  -- there was no room for the left cumulatives of as many rows as the iterator gave weights for
-  abbrev pub LacksRoom : (precision : ℕ) → Bool → (ℕ → Type 0) → Type 0
-  LacksRoom precision infer HasRoom = (ws : List Word) × (s : S) × Yields steps it ws s
-      × (n : ℕ) × (n ≤ length (completed precision infer (map whole ws))) × ¬ (HasRoom n)
 
 -- these entries hold these rows: the symbol and the left cumulative of each, in order
 abbrev pub HoldsRows : {Word Symbol : Type 0} → (Word → ℕ) → List (Word × Symbol) → List (Row Symbol) → Type 0

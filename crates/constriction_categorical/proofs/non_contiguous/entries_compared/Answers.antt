@@ -19,11 +19,11 @@ rows_read-requires-clause-symbols_end g c =
 
 pub rows_read-requires-clause-weights_go : goal.rows_read-requires-clause-weights_go
 rows_read-requires-clause-weights_go g c =
-    (c.requires.weights_end c.into_iter-probabilities.result c.into_iter-probabilities.ensures.into_iter_gives).0
+    (c.requires.probabilities_end c.into_iter-probabilities.result c.into_iter-probabilities.ensures.into_iter_gives).0
 
 pub rows_read-requires-clause-weights_end : goal.rows_read-requires-clause-weights_end
 rows_read-requires-clause-weights_end g c =
-    (c.requires.weights_end c.into_iter-probabilities.result c.into_iter-probabilities.ensures.into_iter_gives).1
+    (c.requires.probabilities_end c.into_iter-probabilities.result c.into_iter-probabilities.ensures.into_iter_gives).1
 
 pub returns : goal.returns
 returns g c =

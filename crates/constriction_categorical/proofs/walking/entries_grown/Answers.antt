@@ -17,7 +17,7 @@ rows-preserved g c =
       collected-uncompared g.Walk.Iterator.next_gives c.args.walk c.rows.walk c.next.new.self c.rows.entries.items
           c.in_ok-entries.entries.items
           c.in-Some.row (c.in_ok-symbol.symbol, c.in_ok-symbol.left, c.in_ok-symbol._weight) c.rows.invariant.2 c.in-Some.ensures.steps
-          c.in_ok-symbol.was c.in_ok-entries.ensures.items,
+          c.in_ok-symbol.was c.in_ok-entries.ensures,
     )
 
 pub returns : goal.returns

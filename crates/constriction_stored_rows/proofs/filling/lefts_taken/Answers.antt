@@ -1,6 +1,5 @@
 use Rattle.std.proofs.Common.{◌^◌, ◌∷◌, ◌++◌, [], refl}
-use Rattle.constriction_stored_rows.specs.private.Filling.{IsTaken}
-use Rattle.constriction_stored_rows.proofs.FillLemmas.{one_is, one_fits, room_below, end_below, begun-none, begun-more, begun-given, begun-bad_given, begun-inferred, begun-bad_inferred, begun-full_given, begun-full_inferred, taken-none, taken-more}
+use Rattle.constriction_stored_rows.proofs.FillLemmas.{one_is, one_fits, room_below, end_below, begun-none, begun-more, begun-given, begun-bad_given, begun-inferred, begun-bad_inferred}
 use Rattle.constriction_stored_rows.proofs.filling.lefts_taken.Goals as goal
 
 pub rows-init : goal.rows-init
@@ -13,7 +12,7 @@ rows-init g c = (
     begun-none g.Weights.Iterator.next_gives _ g.Word.WholeNumber.whole g.Word.WholeNumber.BITS g.row.PRECISION [] c.least-left.result
         (g.Word.WholeNumber.whole c.greatest_of_bits-room.result)
         refl c.least-left.ensures c.greatest_of_bits-room.ensures.value,
-    taken-none g.Taken.TakesLefts.holds g.Taken.TakesLefts.has_room c.args.taken c.requires.none,
+    c.requires.none,
   ),
 )
 
@@ -28,7 +27,7 @@ rows-preserved g c =
         begun-more c.rows.invariant.2.2 (c.rows.invariant.2.1 ++ c.rows.left ∷ []) _ c.in-Some.weight c.plus-left.result
             (g.Word.WholeNumber.whole c.minus-room.result) refl c.in-Some.ensures.steps c.greatest_of_bits-room.ensures.within
             (c.leaves_some.ensures.some c.if-not-leaves_some.false) c.plus-left.ensures c.minus-room.ensures,
-        taken-more g.Taken.TakesLefts.holds g.Taken.TakesLefts.has_room _ _ _ _ _ c.rows.invariant.2.3 c.in_ok-taken.ensures.held c.in_ok-taken.ensures.room,
+        c.in_ok-taken.ensures.held c.rows.invariant.2.1 c.rows.invariant.2.3,
       ),
     )
 
@@ -76,10 +75,7 @@ is_inferred_last-requires g c =
     c.rows.invariant.2.2.rest c.greatest_of_bits-room.ensures.within
 
 pub returns-in_err-taken-clause-memory : goal.returns-in_err-taken-clause-memory
-returns-in_err-taken-clause-memory g c = λ _.
-    begun-full_given c.rows.invariant.2.2 c.args.infer_last _ c.in-Some.weight c.in-Some.ensures.steps
-    (g.Taken.TakesLefts.has_room c.args.taken) (g.Taken.TakesLefts.has_room c.rows.taken) c.rows.invariant.2.3.room
-    (c.in_err-taken.ensures.refused refl)
+returns-in_err-taken-clause-memory g c = λ _. c.in_err-taken.ensures.refused refl
 
 pub returns-then-not-is_end_of_given-clause-invalid : goal.returns-then-not-is_end_of_given-clause-invalid
 returns-then-not-is_end_of_given-clause-invalid g c = λ _.
@@ -90,9 +86,8 @@ pub returns-then-not-leaves_some-clause-ok : goal.returns-then-not-leaves_some-c
 returns-then-not-leaves_some-clause-ok g c =
     begun-given c.rows.invariant.2.2 c.args.infer_last _ _ c.in-Some.weight c.in-Some.ensures.steps
     (c.is_end_of_given.ensures.filled c.if-not-is_end_of_given.false)
-    (IsTaken g.Taken.TakesLefts.holds g.Taken.TakesLefts.has_room c.args.taken c.in_ok-taken.taken)
-    (taken-more g.Taken.TakesLefts.holds g.Taken.TakesLefts.has_room _ _ _ _ _ c.rows.invariant.2.3 c.in_ok-taken.ensures.held
-    c.in_ok-taken.ensures.room)
+    (g.Taken.TakesLefts.holds c.in_ok-taken.taken)
+    (c.in_ok-taken.ensures.held c.rows.invariant.2.1 c.rows.invariant.2.3)
 
 pub returns-then-not-is_inferred_last-clause-invalid : goal.returns-then-not-is_inferred_last-clause-invalid
 returns-then-not-is_inferred_last-clause-invalid g c = λ _.
@@ -100,16 +95,11 @@ returns-then-not-is_inferred_last-clause-invalid g c = λ _.
     (c.is_inferred_last.ensures.bad c.if-not-is_inferred_last.true)
 
 pub returns-in_err-with_left-clause-memory : goal.returns-in_err-with_left-clause-memory
-returns-in_err-with_left-clause-memory g c = λ _.
-    begun-full_inferred c.rows.invariant.2.2 c.args.infer_last
-    (c.is_inferred_last.ensures.inferred c.if-not-is_inferred_last.false).0
-    (g.Taken.TakesLefts.has_room c.args.taken) (g.Taken.TakesLefts.has_room c.rows.taken) c.rows.invariant.2.3.room
-    (c.in_err-with_left.ensures.refused refl)
+returns-in_err-with_left-clause-memory g c = λ _. c.in_err-with_left.ensures.refused refl
 
 pub returns-clause-ok : goal.returns-clause-ok
 returns-clause-ok g c =
     begun-inferred c.rows.invariant.2.2 c.args.infer_last _ c.in_default.ensures.steps
     (c.is_inferred_last.ensures.inferred c.if-not-is_inferred_last.false)
-    (IsTaken g.Taken.TakesLefts.holds g.Taken.TakesLefts.has_room c.args.taken c.in_ok-with_left.field-0)
-    (taken-more g.Taken.TakesLefts.holds g.Taken.TakesLefts.has_room _ _ _ _ _ c.rows.invariant.2.3 c.in_ok-with_left.ensures.held
-    c.in_ok-with_left.ensures.room)
+    (g.Taken.TakesLefts.holds c.in_ok-with_left.field-0)
+    (c.in_ok-with_left.ensures.held c.rows.invariant.2.1 c.rows.invariant.2.3)

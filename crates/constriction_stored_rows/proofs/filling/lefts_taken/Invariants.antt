@@ -1,7 +1,7 @@
 -- The left cumulatives of what was read were taken, and what is left are the next row's first quantile and `room` more.
 use Rattle.std.specs.Prelude.{List}
 use Rattle.std.specs.Iterator.{IsFinite}
-use Rattle.constriction_stored_rows.specs.private.Filling.{IsCdfBegun, IsTaken}
+use Rattle.constriction_stored_rows.specs.private.Filling.{IsCdfBegun}
 use Rattle.constriction_stored_rows.proofs.filling.lefts_taken.Given as goal
 
 abbrev pub invariant-rows : goal.invariant-rows
@@ -11,4 +11,4 @@ invariant-rows g l =
     × ((weights lefts : List g.row.Word.Denot)
     × IsCdfBegun g.Weights.Iterator.next_gives l.initial.rest g.Word.WholeNumber.whole g.Word.WholeNumber.BITS
     g.row.PRECISION weights lefts l.rest l.left (g.Word.WholeNumber.whole l.room)
-    × IsTaken g.Taken.TakesLefts.holds g.Taken.TakesLefts.has_room l.initial.taken l.taken lefts)
+    × g.Taken.TakesLefts.holds l.taken lefts)
