@@ -21,10 +21,8 @@ where
     ensures { IfOk result (λ end. (row : Row D.Symbol) × IsRowOf (D.rows model.now) (Word.whole quantile) row
         × (Word.whole end ≡ (row.left + row.weight) % 2 ^ Word.BITS)) }
 {
-    match model.quantile_function(quantile) {
-        Ok((_symbol, left, weight)) => Ok(left.wrapping_add(&weight.get())),
-        Err(refusal) => Err(refusal),
-    }
+    let (_symbol, left, weight) = model.quantile_function(quantile)?;
+    Ok(left.wrapping_add(&weight.get()))
 }
 
 /// The weight of the row of a quantile, by a decoder over any `BitArray`.
@@ -38,10 +36,8 @@ where
     requires in_range { M.Probability.whole quantile < 2 ^ PRECISION }
     ensures { IfOk result (λ weight. M.Probability.whole weight ≤ 2 ^ PRECISION) }
 {
-    match model.quantile_function(quantile) {
-        Ok((_symbol, _left, weight)) => Ok(weight.get()),
-        Err(refusal) => Err(refusal),
-    }
+    let (_symbol, _left, weight) = model.quantile_function(quantile)?;
+    Ok(weight.get())
 }
 
 /// The weight of a symbol as a word, by any encoder over these words, or 0 if the symbol has none.
@@ -64,10 +60,8 @@ where
     M::Symbol: Drop,
     requires in_range { quantile < 2 ^ 12 }
 {
-    match model.quantile_function(quantile) {
-        Ok((_symbol, left, weight)) => Ok(left.wrapping_add(weight.get() - 1)),
-        Err(refusal) => Err(refusal),
-    }
+    let (_symbol, left, weight) = model.quantile_function(quantile)?;
+    Ok(left.wrapping_add(weight.get() - 1))
 }
 
 #[test]

@@ -38,10 +38,7 @@ fn letters_differ(model: &Decoder<char, 3>)
 /// compares them is made first.
 #[tactic(auto, using(crate::proofs::DistinctLemmas::same_are_equal))]
 fn decoder_of_distinct(alloc: Global, model: &Triple) -> Result<Decoder<char, 3>, ModelError> {
-    match decoder_of(alloc, model) {
-        Ok(compared) => letters_differ(&compared),
-        Err(refusal) => return Err(refusal),
-    }
+    letters_differ(&decoder_of(alloc, model)?);
     to_generic_decoder_model_of_distinct(alloc, model)
 }
 

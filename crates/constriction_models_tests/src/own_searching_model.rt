@@ -1,7 +1,5 @@
 //! A model of the caller's own with a lookup table: how often a look-up reads where a row begins, and what it asks of the model.
 
-ghost use Rattle.std.specs.Prelude.{◌<◌, ◌^◌};
-
 use crate::checks::{same, same_at};
 use crate::watched_symbols::{Decoder, sixteen};
 use constriction::stream::model::{

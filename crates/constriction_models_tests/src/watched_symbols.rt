@@ -1,7 +1,5 @@
 //! How often symbols are cloned, compared and hashed: by constructors, look-ups, walks and clones of models.
 
-ghost use Rattle.std.specs.Prelude.{◌<◌, ◌^◌};
-
 use crate::checks::{same, same_at};
 use constriction::stream::model::{
     DecoderModel, EncoderModel, IterableEntropyModel, ModelError,
