@@ -30,10 +30,8 @@ fn row_of_20(model: &Weighted<6>) -> Result<(usize, u8, u8), AllocError>
     requires { ⟦<Weighted<6> as EntropyModel<6>>⟧.rows model.now ≡ contiguous_rows (3 ∷ 18 ∷ 1 ∷ 42 ∷ []) }
     ensures { result ≡ Ok (1, 3, 18) }
 {
-    match model.quantile_function(20) {
-        Ok((symbol, left, weight)) => Ok((symbol, left, weight.get())),
-        Err(refusal) => Err(refusal),
-    }
+    let (symbol, left, weight) = model.quantile_function(20)?;
+    Ok((symbol, left, weight.get()))
 }
 
 /// The same for a lookup model.
@@ -41,10 +39,8 @@ fn looked_up(model: &Lookup) -> Result<(usize, u8, u8), AllocError>
     requires { ⟦<Lookup as EntropyModel<6>>⟧.rows model.now ≡ contiguous_rows (3 ∷ 18 ∷ 1 ∷ 42 ∷ []) }
     ensures { result ≡ Ok (1, 3, 18) }
 {
-    match model.quantile_function(20) {
-        Ok((symbol, left, weight)) => Ok((symbol, left, weight.get())),
-        Err(refusal) => Err(refusal),
-    }
+    let (symbol, left, weight) = model.quantile_function(20)?;
+    Ok((symbol, left, weight.get()))
 }
 
 /// The same in a view.
@@ -52,10 +48,8 @@ fn looked_up_in_a_view(model: &Lookup) -> Result<(usize, u8, u8), AllocError>
     requires { ⟦<Lookup as EntropyModel<6>>⟧.rows model.now ≡ contiguous_rows (3 ∷ 18 ∷ 1 ∷ 42 ∷ []) }
     ensures { result ≡ Ok (1, 3, 18) }
 {
-    match model.as_view().quantile_function(20) {
-        Ok((symbol, left, weight)) => Ok((symbol, left, weight.get())),
-        Err(refusal) => Err(refusal),
-    }
+    let (symbol, left, weight) = model.as_view().quantile_function(20)?;
+    Ok((symbol, left, weight.get()))
 }
 
 /// The same for a decoder of letters. The letter of the second row is `x`.
@@ -64,10 +58,8 @@ fn letter_of_20(model: &Decoder) -> Result<(char, u8, u8), AllocError>
         ≡ rows_of (97 ∷ 120 ∷ 99 ∷ 121 ∷ []) (3 ∷ 18 ∷ 1 ∷ 42 ∷ []) }
     ensures { result ≡ Ok (120, 3, 18) }
 {
-    match model.quantile_function(20) {
-        Ok((symbol, left, weight)) => Ok((symbol, left, weight.get())),
-        Err(refusal) => Err(refusal),
-    }
+    let (symbol, left, weight) = model.quantile_function(20)?;
+    Ok((symbol, left, weight.get()))
 }
 
 /// The same for a lookup model of letters.
@@ -76,10 +68,8 @@ fn letter_looked_up(model: &Tabled) -> Result<(char, u8, u8), AllocError>
         ≡ rows_of (97 ∷ 120 ∷ 99 ∷ 121 ∷ []) (3 ∷ 18 ∷ 1 ∷ 42 ∷ []) }
     ensures { result ≡ Ok (120, 3, 18) }
 {
-    match model.quantile_function(20) {
-        Ok((symbol, left, weight)) => Ok((symbol, left, weight.get())),
-        Err(refusal) => Err(refusal),
-    }
+    let (symbol, left, weight) = model.quantile_function(20)?;
+    Ok((symbol, left, weight.get()))
 }
 
 /// The same in a clone.
@@ -141,10 +131,8 @@ fn second_entry(model: &Weighted<6>) -> Option<(u8, u8)>
 fn row_of_819() -> Result<(usize, u16, u16), AllocError>
     ensures { result ≡ Ok (1, 819, 819) }
 {
-    match SmallUniformModel::new(5).quantile_function(819) {
-        Ok((symbol, left, weight)) => Ok((symbol, left, weight.get())),
-        Err(refusal) => Err(refusal),
-    }
+    let (symbol, left, weight) = SmallUniformModel::new(5).quantile_function(819)?;
+    Ok((symbol, left, weight.get()))
 }
 
 /// The entry of its last symbol.
