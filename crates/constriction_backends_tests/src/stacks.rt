@@ -102,8 +102,8 @@ fn a_stack_keeps_its_words_where_each_request_is_refused(rt: HostRuntime) {
 fn there_and_back_in_a_vec(words: &mut Vec<u8>, word: u8) -> Result<Option<u8>, AllocError> {
     match laws::push_then_pop(words, word) {
         Ok(word) => Ok(word),
-        Err(ReadWriteError::Write(refused)) => Err(refused),
-        Err(ReadWriteError::Read(never)) => match never {},
+        Err(ReadWriteError::Write(error)) => Err(error),
+        Err(ReadWriteError::Read(error)) => match error {},
     }
 }
 
