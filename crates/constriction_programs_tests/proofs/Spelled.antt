@@ -21,14 +21,17 @@ parsed_none line (Ok None) none found = refl
 parsed_none line (Ok (Some command)) none found = absurd (spells_none line none (view command) found)
 parsed_none line (Err e) none found = tt
 
+-- a uniform model has one range
 pub two_ranges_none : read_line (codes "uniform u8/6 2 3") ≡ None
 unfolding read_line read_words read_format read_numbers read_number read_request
 two_ranges_none = refl
 
+-- two spaces in a row are no separator
 pub two_spaces_none : read_line (codes "table  u8/6 64") ≡ None
 unfolding read_line read_words read_format read_numbers read_number read_request
 two_spaces_none = refl
 
+-- a number has at most 20 digits
 pub many_digits_none : read_line (codes "table u8/6 000000000000000000064") ≡ None
 unfolding read_line read_words read_format read_numbers read_number read_request
 many_digits_none = refl
