@@ -20,6 +20,7 @@ pub vec-shows : {X Z : Type 0} (s : IntoIter X Z) (answer : Option X) (t : IntoI
 vec-shows s (Some x) t step = step.0
 vec-shows s None t step = (nil_from_length _ (sym s.rest.ok.0 ∙ step.0), nil_from_length _ (sym t.rest.ok.0 ∙ step.1))
 
+-- the iterator of a vector, taken from its back, gives its last item
 pub vec-shows-back : {X Z : Type 0} (s : IntoIter X Z) (answer : Option X) (t : IntoIter X Z) → into_iter_steps_back s answer t
     → YieldsLast into_iter_items s answer t
 vec-shows-back s (Some x) t step = step
@@ -55,6 +56,7 @@ module _ {A B C : Type 0} where
   beside-seconds R (x ∷ xs) [] (c ∷ cs) e h = absurd (omega (arith, e))
   beside-seconds R (x ∷ xs) (b ∷ bs) (c ∷ cs) e h = (h.0, beside-seconds R xs bs cs (omega (arith, e)) h.1)
 
+  -- what holds of the first parts of pairs holds of the list of these parts
   pub beside-firsts : (R : A → B → Type 0) (xs : List A) (bs : List B) (cs : List C) → length bs ≡ length cs
       → AllZip (λ x p. R x p.0) xs (zip bs cs) → AllZip R xs bs
   beside-firsts R [] [] cs e h = tt

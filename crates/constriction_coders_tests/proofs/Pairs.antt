@@ -19,6 +19,7 @@ module _ {A B S E : Type 0} (Stands : A → A → Type 0) (eq : A → A → Bool
     (starts : IsAt tells whole (words ++ []) start)
     (read : IsRead Stands rows gives precision answer start middle)
     (read_on : IsRead OtherStands other_rows gives other_precision other_answer middle end) where
+  -- both symbols come back
   pub two-back : StandsForEqual Stands eq symbol answer × StandsForEqual OtherStands other_eq other other_answer
   two-back =
       let begun : IsNarrowed (entry symbol) precision whole mid = rw new at first in

@@ -35,6 +35,7 @@ module _ {Symbol S E : Type 0} (Stands : Symbol → Symbol → Type 0) (eq : Sym
       (sealed : IsSealed last words) (starts : IsAt tells whole (words ++ []) start)
       (read : IsRead Stands rows gives precision answer start middle)
       (read_on : IsRead Stands others gives precision other_answer middle end) where
+    -- both symbols come back
     pub two-back : StandsForEqual Stands eq symbol answer × StandsForEqual Stands eq other other_answer
     two-back =
         let e : IsNarrowed (entry_of eq rows symbol) precision whole mid = rw new at first in

@@ -118,12 +118,10 @@ where
 {
     let mut symbols = Vec::new(alloc);
     for answer in decode_iid_symbols::<_, D, PRECISION>(coder, count, model) {
-        match answer {
-            Ok(symbol) => match symbols.push(symbol) {
-                Ok(()) => {}
-                Err(refused) => return Err(CoderError::Frontend(refused.into())),
-            },
-            Err(error) => return Err(error),
+        let symbol = answer?;
+        match symbols.push(symbol) {
+            Ok(()) => {}
+            Err(error) => return Err(CoderError::Frontend(error.into())),
         }
     }
     Ok(symbols)

@@ -22,7 +22,7 @@ fn are_weighed<const PRECISION: usize>(
 {
     match weights_of::<PRECISION>(alloc, counts) {
         Ok(found) => holds(rt, &found, weights),
-        Err(fault) => same(rt, Err(fault), Ok(())),
+        Err(error) => same(rt, Err(error), Ok(())),
     }
 }
 
@@ -70,10 +70,8 @@ fn weighed_twice(
     ensures { IfOk result (λ own. own.items ≡ weights.new.items) }
 {
     counts_have_one_list::<8>();
-    match weigh::<8>(counts, weights) {
-        Ok(()) => weights_of::<8>(alloc, counts),
-        Err(fault) => Err(fault),
-    }
+    weigh::<8>(counts, weights)?;
+    weights_of::<8>(alloc, counts)
 }
 
 #[test]

@@ -157,10 +157,7 @@ fn three_and(alloc: Global, last: u32) -> Result<Vec<u32>, AllocError> {
 
 /// How many symbols a model has, or the error if none was made.
 fn count_of(made: Result<Model<12>, ModelError>) -> Result<usize, ModelError> {
-    match made {
-        Ok(model) => Ok(model.support_size()),
-        Err(error) => Err(error),
-    }
+    Ok(made?.support_size())
 }
 
 #[test]

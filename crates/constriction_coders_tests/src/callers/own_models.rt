@@ -61,12 +61,10 @@ where
 {
     let mut answers = Vec::new(alloc);
     for answer in decode_symbols::<_, &D, &[D], PRECISION>(coder, models) {
-        match answer {
-            Ok(symbol) => match answers.push(symbol) {
-                Ok(()) => {}
-                Err(refused) => return Err(CoderError::Frontend(refused.into())),
-            },
-            Err(error) => return Err(error),
+        let symbol = answer?;
+        match answers.push(symbol) {
+            Ok(()) => {}
+            Err(error) => return Err(CoderError::Frontend(error.into())),
         }
     }
     Ok(answers)
@@ -139,13 +137,11 @@ where
         (zip answers.items models.now) (read_by decoder.old) left) }
 {
     let mut answers = Vec::new(alloc);
-    for answer in dedecode_symbols::<_, &D, &[D], PRECISION>(&mut coder, models) {
-        match answer {
-            Ok(symbol) => match answers.push(symbol) {
-                Ok(()) => {}
-                Err(_) => return Err(CoderError::Frontend(DecoderFrontendError::OutOfMemory)),
-            },
-            Err(error) => return Err(error),
+    for answer in decode_symbols::<_, &D, &[D], PRECISION>(&mut coder, models) {
+        let symbol = answer?;
+        match answers.push(symbol) {
+            Ok(()) => {}
+            Err(_) => return Err(CoderError::Frontend(DecoderFrontendError::OutOfMemory)),
         }
     }
     Ok(answers)
