@@ -36,6 +36,7 @@ module _ {Symbol Word Weight Refusal T : Type 0} (steps : T → Option (Result (
       pub held : entries ≡ map (λ x. (x.1, x.0)) taken
       pub distinct : IsDistinct eq (map (λ x. x.0) taken)
 
+    -- before the first step nothing is collected
     pub collected-none : (entries : List (Word × Symbol)) → entries ≡ [] → IsCollected it entries
     collected-none entries n = record { taken = []; walked = refl; held = n; distinct = none-distinct eq }
 
@@ -48,6 +49,7 @@ module _ {Symbol Word Weight Refusal T : Type 0} (steps : T → Option (Result (
           ap (map (λ y. y.1)) (same ∙ f.held) ∙ map-map (λ y. y.1) (λ y. (y.1, y.0)) f.taken in
           ap (list_any (eq x.0)) (sym symbols) ∙ sym is ∙ h
 
+      -- one entry more, of a symbol that was not there yet
       pub collected-step : (next : List (Word × Symbol)) → next ≡ entries ++ (x.1, x.0) ∷ [] → found ≡ false → IsCollected v next
       collected-step next n apart = record {
         taken = f.taken ++ x ∷ [];
@@ -67,6 +69,7 @@ module _ {Symbol Word Weight Refusal T : Type 0} (steps : T → Option (Result (
             (subst (IsDistinct eq) (map-append (λ y. y.0) f.taken (x ∷ [])) d),
       )
 
+    -- at the end the entries are those of all rows, and their symbols differ
     pub collected-end : (u v : T) (entries : List (Word × Symbol)) → IsCollected u entries → steps u None v
         → WalkedGood steps it (λ xs. (entries ≡ map (λ x. (x.1, x.0)) xs) × IsDistinct eq (map (λ x. x.0) xs))
     collected-end u v entries f end = (f.taken, (v, (u, f.walked, end)), (f.held, f.distinct))
@@ -134,6 +137,7 @@ module _ {Symbol Word Weight Refusal T : Type 0} (Stands : Symbol → Symbol →
                 ∙ sym (map-map (λ r. r.left) (row_of whole base) good.0),
           )
 
+      -- the entries of a whole walk are stored as its rows are
       pub walked-stored : IsStored bits precision (map (λ x. whole x.0) entries)
           × StandForRows Stands (rows_paired whole precision entries) rows
       walked-stored = (
@@ -141,6 +145,7 @@ module _ {Symbol Word Weight Refusal T : Type 0} (Stands : Symbol → Symbol →
         subst (λ (rs : List (Row Symbol)). StandForRows Stands rs rows) (sym made-stored.1) (walked-all good.0 good.1),
       )
 
+      -- their symbols differ
       pub walked-distinct : IsDistinct eq (map (λ y. y.1) entries) × IsDistinct eq (symbols_of (rows_paired whole precision entries))
       walked-distinct =
           let held : map (λ x. x.0) good.0 ≡ map (λ y. y.1) entries =
@@ -149,6 +154,7 @@ module _ {Symbol Word Weight Refusal T : Type 0} (Stands : Symbol → Symbol →
             subst (IsDistinct eq) (walked-symbols good.0 ∙ ap symbols_of (sym made-stored.1)) good.2.1,
           )
 
+    -- if two symbols are equal, two clones of the rows' symbols are
     pub walked-repeat : WalkedBad steps it (λ xs. IsDistinct eq (map (λ x. x.0) xs)) → ClonesRepeat eq Stands rows
     walked-repeat bad =
         let gave = walks-rows Stands MayRefuse whole base steps rows_left law it (map Ok bad.0) bad.1 bad.2 in (

@@ -109,6 +109,7 @@ module _ {J S K T Symbol Word Entries : Type 0} (becomes : J → S → Type 0) (
     (Accepted : List Symbol → List ℕ → Type 0) (completes : List ℕ → List ℕ) (whole : Word → ℕ)
     (Tells : Entries → List Symbol → List ℕ → Type 0)
     (it : S) (here : becomes from it) (jt : T) (there : other_becomes other jt) where
+  -- what was read says what a constructor of symbols and weights made of it
   pub read-of_both : (r : Result Entries ModelError)
       → IfOk r (λ t. GaveBothGood steps it other_steps jt
       (λ ss ws. Accepted ss (completes (map whole ws)) × Tells t ss (completes (map whole ws))))

@@ -8,12 +8,14 @@ use Rattle.constriction_stored_rows.proofs.CdfLemmas.{cdf-of}
 use Rattle.constriction_categorical.specs.Cdf.{IsCdfOfWeights}
 
 module _ {T E W : Type 0} (whole : W → ℕ) (bits precision : ℕ) (old new : List W) (weights : List ℕ) where
+  -- cumulatives that were written anew, or not, are a cdf
   pub refilled-cdf : (r : Result T E) → IsCdf bits precision (map whole old) → OnOk r (IsAccepted bits precision weights)
       → OnOk r (map whole new ≡ lefts_from 0 weights ++ total_of bits precision ∷ []) → OnErr r (new ≡ old)
       → IsCdf bits precision (map whole new)
   refilled-cdf (Ok _) before accepted is same = (cdf-of bits precision (map whole new) weights accepted is).0
   refilled-cdf (Err _) before accepted is same = let e : new ≡ old = same in rw e before
 
+  -- if they were written anew, their rows are those of the weights
   pub refilled-rows : (r : Result T E) → OnOk r (IsAccepted bits precision weights)
       → OnOk r (map whole new ≡ lefts_from 0 weights ++ total_of bits precision ∷ [])
       → OnOk r (contiguous_rows (weights_of precision (lefts_in (map whole new))) ≡ contiguous_rows weights)

@@ -11,6 +11,7 @@ use Rattle.constriction_stored_rows.proofs.MadeLemmas.{made-unrefused}
 module _ {Symbol Word Source Model : Type 0} (Accepted : List Symbol → List ℕ → Type 0) (completes : List ℕ → List ℕ)
     (ReadSymbols : Reading → List Symbol → Type 0) (Read : Reading → List Word → Type 0) (whole : Word → ℕ)
     (rows : Model → List (Row Symbol)) where
+  -- a model that is made of another has the rows of its symbols and weights
   pub made_of_both : (known : Source → List (Row Symbol)) (v : Source) (result : Result Model ModelError)
       → IsMadeOfBoth Accepted completes ReadSymbols Read whole (λ v ss ws. known v ≡ rows_of ss ws) (Ok v)
       → IfOk result (λ m. rows m ≡ known v) → IfErr result (λ e. e ≡ OutOfMemory)
@@ -25,6 +26,7 @@ module _ {Symbol Word Source Model : Type 0} (Accepted : List Symbol → List �
         absurd cc;
   }
 
+  -- what refuses the first model refuses the one made of it
   pub refused_both : (Tells : Source → List Symbol → List ℕ → Type 0) (e : ModelError)
       → IsMadeOfBoth Accepted completes ReadSymbols Read whole Tells (Err e)
       → IsMadeOfBoth Accepted completes ReadSymbols Read whole (λ m ss ws. rows m ≡ rows_of ss ws) (Err e)
@@ -40,6 +42,7 @@ module _ {J S K T Symbol Word Source Model : Type 0} (Accepted : List Symbol →
     (becomes : J → S → Type 0) (steps : S → Option Symbol → S → Type 0) (from : J)
     (other_becomes : K → T → Type 0) (other_steps : T → Option Word → T → Type 0) (other : K) (whole : Word → ℕ)
     (rows : Model → List (Row Symbol)) where
+  -- the same of known lists of symbols and weights
   pub decided_of_both : (known : Source → List (Row Symbol)) (v : Source) (result : Result Model ModelError)
       → IsDecidedByBoth Accepted completes becomes steps from other_becomes other_steps other whole (λ v ss ws. known v ≡ rows_of ss ws)
       (Ok v)
@@ -61,6 +64,7 @@ module _ {J S K T Symbol Word Source Model : Type 0} (Accepted : List Symbol →
         absurd cc;
   }
 
+  -- what refuses the first model of known lists refuses the one made of it
   pub error_of_both : (Tells : Source → List Symbol → List ℕ → Type 0) (e : ModelError)
       → IsDecidedByBoth Accepted completes becomes steps from other_becomes other_steps other whole Tells (Err e)
       → IsDecidedByBoth Accepted completes becomes steps from other_becomes other_steps other whole (λ m ss ws. rows m ≡ rows_of ss ws)
@@ -76,6 +80,7 @@ module _ {J S K T Symbol Word Source Model : Type 0} (Accepted : List Symbol →
 
 module _ {J S Word Source Model : Type 0} (Accepted : List ℕ → Type 0) (completes : List ℕ → List ℕ)
     (becomes : J → S → Type 0) (steps : S → Option Word → S → Type 0) (from : J) (whole : Word → ℕ) (rows : Model → List (Row ℕ)) where
+  -- a model that is made of another has the rows of its known weights
   pub decided_of_weights : (known : Source → List (Row ℕ)) (v : Source) (result : Result Model ModelError)
       → IsDecidedByWeights Accepted completes becomes steps from whole (λ v ws. known v ≡ contiguous_rows ws) (Ok v)
       → IfOk result (λ m. rows m ≡ known v) → IfErr result (λ e. e ≡ OutOfMemory)
@@ -102,6 +107,7 @@ module _ {J S Word Source Model : Type 0} (Accepted : List ℕ → Type 0) (comp
         absurd cc;
   }
 
+  -- what refuses the first model of known weights refuses the one made of it
   pub error_of_weights : (Tells : Source → List ℕ → Type 0) (e : ModelError)
       → IsDecidedByWeights Accepted completes becomes steps from whole Tells (Err e)
       → IsDecidedByWeights Accepted completes becomes steps from whole (λ m ws. rows m ≡ contiguous_rows ws) (Err e)
@@ -125,6 +131,7 @@ pub rows_same : {Symbol Model Error : Type 0} (rows : Model → List (Row Symbol
 rows_same rows made others (Ok m) is same = is ∙ same
 rows_same rows made others (Err e) is same = tt
 
+-- a model of rows that stand for others has such rows
 pub rows_stand : {Symbol Model Error : Type 0} (Stands : Symbol → Symbol → Type 0) (rows : Model → List (Row Symbol))
     (made others : List (Row Symbol)) (r : Result Model Error) → IfOk r (λ m. rows m ≡ made) → StandForRows Stands made others
     → IfOk r (λ m. StandForRows Stands (rows m) others)

@@ -6,12 +6,14 @@ use Rattle.constriction_stored_rows.specs.SlotTable.{BeginsWithSlots, HasSlots, 
 module _ {Word : Type 0} (whole : Word → ℕ) (bits precision width count : ℕ) (lefts : List ℕ) (words lent : List Word)
     (t : BeginsWithSlots bits precision width count lefts (map whole words)) (e : lent ≡ words) (n : ℕ)
     (many : n ≡ words_a_slot width * count) where
+  -- the words that are lent begin with the slots
   pub slots-lent : HasSlots width count lefts (map whole (take n lent))
   slots-lent =
       let same : take (words_a_slot width * count) (map whole words) ≡ map whole (take n lent) =
       rw (e, many) (take-map whole (words_a_slot width * count) words) in
       rw same at t.slots
 
+  -- what may follow the slots follows them there
   pub rest-lent : MayFollow bits precision lefts (map whole (take (length lent - n) (drop n lent)))
   rest-lent =
       let all : take (length lent - n) (drop n lent) ≡ drop n lent =
