@@ -194,9 +194,11 @@ module _ {K X Word Weight Refusal T : Type 0} (steps : T → Option (Result (K �
     pub walked : Yields steps it (map Ok taken) u
     pub entries : (whole : Word → ℕ) (base : Weight → Word) → HoldsEntries eq (numbers whole base) f (map (row_of whole base) taken)
 
+  -- before the first step no symbol has an entry
   pub hashed-none : (f : K → Option X) → ((s : K) → f s ≡ None) → IsHashed it f
   hashed-none f h = record { taken = []; walked = refl; entries = λ whole base s. ap (option_map (numbers whole base)) (h s) }
 
+  -- one row more gives its symbol the entry
   pub hashed-step : IsEquivalence eq → (u v : T) (f g : K → Option X) (o : Result (K × Word × Weight) Refusal)
       (y : K × Word × Weight) (x : X)
       → ((whole : Word → ℕ) (base : Weight → Word) → numbers whole base x ≡ (whole y.1, whole (base y.2)))
@@ -211,6 +213,7 @@ module _ {K X Word Weight Refusal T : Type 0} (steps : T → Option (Result (K �
         ∙ ap (λ (rs : List (Row K)). entry_of eq rs s) (sym (map-append (row_of whole base) i.taken (y ∷ [])));
   }
 
+  -- at the end the entries are those of all rows
   pub hashed-end : (u v : T) (f : K → Option X) → IsHashed u f → steps u None v
       → WalkedGood steps it
       (λ xs. (whole : Word → ℕ) (base : Weight → Word) → HoldsEntries eq (numbers whole base) f (map (row_of whole base) xs))
