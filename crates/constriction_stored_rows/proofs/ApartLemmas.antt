@@ -26,6 +26,7 @@ module _ {Word Symbol : Type 0} (eq : Symbol → Symbol → Bool) (whole : Word 
   read-symbols = h.0 ∙ accepted-symbols (λ _ _. false) bits precision ss ws a
 
   module _ (d : IsDistinct eq ss) where
+    -- symbols that differ and weights that are accepted are accepted together
     pub apart-accepted : AreAccepted eq bits precision ss ws
     apart-accepted = record { tile = a.tile; as_many = a.as_many; distinct = d }
 

@@ -28,14 +28,17 @@ cdf-of bits precision cdf ws a e =
     (record { stored = stored.0; ends = rw lefts e }, stored.1)
 
 module _ (bits precision : ℕ) (cdf : List ℕ) (t : IsCdf bits precision cdf) where
+  -- a cdf has one word more than rows
   pub cdf-long : length cdf ≡ length (lefts_in cdf) + 1
   cdf-long = ap length t.ends ∙ length-append (lefts_in cdf) ((2 ^ precision % 2 ^ bits) ∷ [])
 
+  -- its words are the left cumulatives of its rows
   pub cdf-here : (i : ℕ) → i + 1 < length cdf → get_or cdf i 0 ≡ get_or (lefts_in cdf) i 0
   cdf-here i h =
       let within : i < length (lefts_in cdf) = omega (arith, cdf-long) in
       ap (λ xs. get_or xs i 0) t.ends ∙ get_or_append_left (lefts_in cdf) ((2 ^ precision % 2 ^ bits) ∷ []) 0 i within
 
+  -- the row at an index has the left cumulative and the weight there
   pub cdf-row : (i : ℕ) → i + 1 < length cdf
       → IsRowAt bits precision (lefts_in cdf) i (get_or (weights_of precision (lefts_in cdf)) i 0)
   cdf-row i h = stored-row bits precision (lefts_in cdf) i t.stored (omega (arith, cdf-long))

@@ -55,6 +55,7 @@ module _ (bits precision : ℕ) where
       (t.lefts ∙ ap (λ n. lefts_from 0 weights ++ n ∷ []) (sym e) ∙ sym (lefts_from-push 0 weights (room + 1)))
       accepted).0
 
+  -- no numbers store no rows
   pub not_stored-empty : (numbers : List ℕ) → length numbers ≡ 0 → ¬ (IsStored bits precision numbers)
   not_stored-empty numbers e t = omega (arith, e, stored-some bits precision numbers t)
 
@@ -76,6 +77,7 @@ module _ (bits precision : ℕ) where
         let all = row.last (omega arith) in
         elim why [ inl none ↦ omega (arith, all, row.positive, here, none) | inr much ↦ omega (arith, all, row.fits, here, much) ])
 
+    -- numbers whose last weight is a word store rows
     pub stored-end : (weights : List ℕ) (room : ℕ) → 2 ^ precision ≤ 2 ^ bits → AreBegun (first ∷ take i rest) weights before → i ≡ length rest
         → before + room + 1 ≡ 2 ^ precision → room + 1 < 2 ^ bits → IsStored bits precision numbers
     stored-end weights room wide t end left fits =

@@ -33,6 +33,7 @@ module _ {Word Symbol : Type 0} (cmp : Symbol → Symbol → Ordering) (entries 
   symbol-at k n d x e within =
       ap (λ i. get_or (map (λ x. x.1) entries) i d) e ∙ get_or-map (λ x. x.1) entries n x d within
 
+  -- one symbol is in order
   pub order-none : InOrderBelow 1
   order-none k d below there = absurd (omega arith)
 
@@ -57,6 +58,7 @@ module _ {Word Symbol : Type 0} (cmp : Symbol → Symbol → Ordering) (entries 
         let bad : true ≡ false = ap is_lt (sym less) ∙ not_less in
         cc
 
+  -- symbols in order are sorted
   pub order-all : IsTotalOrder cmp → (n : ℕ) → InOrderBelow n → length entries ≤ n → IsStrictlySortedBy cmp (map (λ x. x.1) entries)
   order-all o n so_far all =
       sorted-from_neighbours o (map (λ x. x.1) entries)

@@ -29,12 +29,14 @@ module _ {Symbol Word : Type 0} (whole : Word → ℕ) (bits precision : ℕ) (e
 
   -- the lent entries are the entries
   module _ (lent : List (Word × Symbol)) (e : lent ≡ entries) where
+    -- the words that are lent are the left cumulatives of the rows
     pub lent-lefts : map (λ x. whole x.0) lent ≡ map (λ r. r.left) (rows_paired whole precision entries)
     lent-lefts =
         ap (map (λ x. whole x.0)) e
         ∙ sym (symbol-lefts bits precision (map (λ x. x.1) entries) (map (λ x. whole x.0) entries) t
         (paired-long whole bits precision entries t))
 
+    -- a probe of them finds the row of a quantile
     pub paired-probed : TellsRows (rows_paired whole precision entries) (λ _. ⊤) 0 (map (λ x. whole x.0) lent)
         × ((q : ℕ) → IsSearchable (map (λ x. whole x.0) lent) q)
         × ((q i : ℕ) → q < 2 ^ precision → IsLastAtMost (map (λ x. whole x.0) lent) q i
@@ -69,9 +71,11 @@ module _ {Symbol Word : Type 0} (whole : Word → ℕ) (bits precision : ℕ) (e
       → IsRowAt bits precision (map (λ x. whole x.0) entries) i (get_or (weights_of precision (map (λ x. whole x.0) entries)) i 0)
   paired-row i h = stored-row bits precision (map (λ x. whole x.0) entries) i t (omega (arith, h, length-map entries (λ x. whole x.0)))
 
+  -- as many rows are left as lie between the two ends
   pub paired-left : (i j : ℕ) → j ≤ length entries → length (rows_between i j (rows_paired whole precision entries)) ≡ j - i
   paired-left i j h = length-between (rows_paired whole precision entries) i j (omega (arith, paired-many))
 
+  -- the first row that is left, and the others
   pub paired-first : (i j l w : ℕ) (x : Word × Symbol) → i < j → j ≤ length entries → x ≡ get_or entries i x
       → l ≡ get_or (map (λ x. whole x.0) entries) i 0 → w ≡ get_or (weights_of precision (map (λ x. whole x.0) entries)) i 0
       → rows_between i j (rows_paired whole precision entries)
@@ -80,6 +84,7 @@ module _ {Symbol Word : Type 0} (whole : Word → ℕ) (bits precision : ℕ) (e
       first-between (rows_paired whole precision entries) i j _ h (omega (arith, paired-many))
       (paired-at i l w x.1 x (omega arith) is refl le we)
 
+  -- the last row that is left, and the others
   pub paired-last : (i j l w : ℕ) (x : Word × Symbol) → i < j → j ≤ length entries → x ≡ get_or entries (j - 1) x
       → l ≡ get_or (map (λ x. whole x.0) entries) (j - 1) 0
       → w ≡ get_or (weights_of precision (map (λ x. whole x.0) entries)) (j - 1) 0
@@ -111,21 +116,25 @@ held-more whole entries rows r left h e = (
 -- the rows of accepted symbols and weights
 module _ {Symbol : Type 0} (eq : Symbol → Symbol → Bool) (bits precision : ℕ) (ss : List Symbol) (ws : List ℕ)
     (a : AreAccepted eq bits precision ss ws) where
+  -- rows of accepted symbols and weights tile
   pub accepted-tile : RowsTile bits precision (rows_of ss ws)
   accepted-tile =
       let weights = weights-rows_from 0 ss ws a.as_many in
       let symbols = symbols-rows_from 0 ss ws a.as_many in
       record { accepted = rw weights a.tile; in_order = rw (weights, symbols) refl }
 
+  -- their symbols are those given
   pub accepted-symbols : symbols_of (rows_of ss ws) ≡ ss
   accepted-symbols = symbols-rows_from 0 ss ws a.as_many
 
+  -- the symbols of their entries differ
   pub paired-distinct : {Word : Type 0} (whole : Word → ℕ) (entries : List (Word × Symbol)) → HoldsRows whole entries (rows_of ss ws)
       → IsDistinct eq (map (λ x. x.1) entries)
   paired-distinct whole entries h = rw (h.0, accepted-symbols) a.distinct
 
 -- clones of entries
 module _ {Symbol Word : Type 0} (whole : Word → ℕ) (IsClone : Symbol → Symbol → Type 0) where
+  -- entries keep their words when their symbols are cloned
   pub cloned-words : (entries cloned : List (Word × Symbol)) → AreEntriesCloned IsClone entries cloned
       → map (λ x. whole x.0) cloned ≡ map (λ x. whole x.0) entries
   cloned-words [] [] h = refl
@@ -134,6 +143,7 @@ module _ {Symbol Word : Type 0} (whole : Word → ℕ) (IsClone : Symbol → Sym
   cloned-words (e ∷ es) (c ∷ cs) h =
       ap (λ w. whole w ∷ map (λ x. whole x.0) cs) h.0.1 ∙ ap (λ ns. whole e.0 ∷ ns) (cloned-words es cs h.1)
 
+  -- their symbols are clones
   pub cloned-symbols : (entries cloned : List (Word × Symbol)) → AreEntriesCloned IsClone entries cloned
       → AllZip (λ t s. IsClone s t) (map (λ x. x.1) cloned) (map (λ x. x.1) entries)
   cloned-symbols [] [] h = tt
@@ -149,6 +159,7 @@ module _ {Symbol Word : Type 0} (whole : Word → ℕ) (IsClone : Symbol → Sym
   cloned-from l (t ∷ ts) (s ∷ ss) [] h = tt
   cloned-from l (t ∷ ts) (s ∷ ss) (w ∷ ws) h = ((h.0, refl, refl), cloned-from (l + w) ts ss ws h.1)
 
+  -- their rows stand for the rows of the first ones
   pub cloned-rows : (precision : ℕ) (entries cloned : List (Word × Symbol)) → AreEntriesCloned IsClone entries cloned
       → StandForRows IsClone (rows_paired whole precision cloned) (rows_paired whole precision entries)
   cloned-rows precision entries cloned h =

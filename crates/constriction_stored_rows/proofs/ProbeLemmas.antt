@@ -13,9 +13,11 @@ use Rattle.constriction_model.specs.private.Searching.{TellsRows}
 use Rattle.constriction_model.specs.Probe.{IsSearchable, IsLastAtMost}
 
 module _ (bits precision : ℕ) (lefts : List ℕ) (t : IsStored bits precision lefts) where
+  -- stored left cumulatives increase
   pub stored-increases : IsStrictlyIncreasing lefts
   stored-increases = λ k h. let row = stored-row bits precision lefts k t (omega arith) in omega (arith, row.next h, row.positive)
 
+  -- they can be searched for any quantile
   pub stored-searchable : (q : ℕ) → IsSearchable lefts q
   stored-searchable q = record {
     some = stored-some bits precision lefts t;
@@ -26,6 +28,7 @@ module _ (bits precision : ℕ) (lefts : List ℕ) (t : IsStored bits precision 
 -- a probe of all rows, with any symbols
 module _ {Symbol : Type 0} (bits precision : ℕ) (ss : List Symbol) (lefts : List ℕ) (t : IsStored bits precision lefts)
     (long : length ss ≡ length lefts) where
+  -- the rows of symbols and stored cumulatives have these cumulatives
   pub symbol-lefts : map (λ r. r.left) (rows_of ss (weights_of precision lefts)) ≡ lefts
   symbol-lefts =
       lefts-rows_from 0 ss (weights_of precision lefts) (symbols-many bits precision ss lefts t long) ∙ sym t.in_order

@@ -30,6 +30,7 @@ not-distinct eq symm (x ∷ xs) ys y e d =
     let rest : list_any (eq y) xs ≡ true = ap (λ b. b || list_any (eq y) xs) (sym apart) ∙ e in
     not-distinct eq symm xs ys y rest (IsDistinct-tail eq x (xs ++ y ∷ ys) d)
 
+-- no symbols differ from each other
 pub none-distinct : {K : Type 0} (eq : K → K → Bool) → IsDistinct eq []
 unfolding IsDistinct
 none-distinct eq = tt
@@ -40,6 +41,7 @@ all-push : {K : Type 0} (P : K → Type 0) (xs : List K) (y : K) → AllByRecurs
 all-push P [] y a p = (p, tt)
 all-push P (x ∷ xs) y a p = (a.0, all-push P xs y a.1 p)
 
+-- symbols that differ, and one that equals none of them, differ
 pub distinct-push : {K : Type 0} (eq : K → K → Bool) → ((x y : K) → eq x y ≡ eq y x) → (xs : List K) (y : K) → IsDistinct eq xs
     → list_any (eq y) xs ≡ false → IsDistinct eq (xs ++ y ∷ [])
 distinct-push eq symm [] y d absent = IsDistinct-cons eq y [] tt (none-distinct eq)
@@ -102,6 +104,7 @@ module _ {S T Symbol W Stored : Type 0} {steps : S → Option Symbol → S → T
       ∙ ap (rows_of (r.symbols ++ t.symbol ∷ [])) (sym e))
       (t.held (rows_of r.symbols (map whole r.weights)) r.held)
 
+  -- one symbol and its weight more are read
   pub read-more : (stored' : Stored) (u' : S) (v' : T) (w next : W) (room' : ℕ) → wsteps v (Some w) v'
       → TookRow steps eq holds u stored (whole left) (whole w) u' stored' → 2 ^ precision ≤ 2 ^ bits → (0 < whole w) × (whole w ≤ room)
       → whole next ≡ whole left + whole w → room' ≡ room - whole w
@@ -176,6 +179,7 @@ module _ {S T Symbol W Stored : Type 0} {steps : S → Option Symbol → S → T
       )
     ]
 
+    -- a row that is refused makes reading fail
     pub bad-row : (u' : S) (v' : T) (w : W) → wsteps v (Some w) v' → RefusedRow steps eq holds u stored u' → Bad
     bad-row u' v' w sw =
         refused-row (r.weights ++ w ∷ []) SoFar (v', yields-more wsteps jt r.weights v w v' r.begun.given sw)
@@ -204,6 +208,7 @@ module _ {S T Symbol W Stored : Type 0} {steps : S → Option Symbol → S → T
           accepted = rw given (given-accepted r.begun infer w fills).0;
         }
 
+    -- the last weight may be inferred
     pub inferred-last : (v' : T) (weight : ℕ) → wsteps v None v' → (infer ≡ true) × (room + 1 < 2 ^ bits) → weight ≡ room + 1
         → IsLast weight
     inferred-last v' weight end last is =
@@ -242,6 +247,7 @@ module _ {S T Symbol W Stored : Type 0} {steps : S → Option Symbol → S → T
             omega (arith, long, as-many others b, good.as_many, r.as_many),
       )
 
+      -- a last row that is taken ends reading well
       pub good-last : (stored' : Stored) (u' u'' : S) → TookRow steps eq holds u stored (whole left) weight u' stored' → steps u' None u''
           → IsReadWell steps wsteps eq holds whole bits precision infer it jt stored'
       good-last stored' u' u'' t end = (

@@ -23,6 +23,7 @@ module _ {Word Symbol Key : Type 0} (eq : Symbol → Symbol → Bool) (laws : Is
     pub holds : (q : Key) → has q ≡ list_any (eq (now q)) (map (λ x. x.1) (take n entries))
     pub distinct : IsDistinct eq (map (λ x. x.1) (take n entries))
 
+  -- at first no symbol was seen
   pub seen-none : (has : Key → Bool) → ((q : Key) → has q ≡ false) → AreSeen has 0
   seen-none has none = record { holds = none; distinct = none-distinct eq }
 
@@ -65,5 +66,6 @@ module _ {Word Symbol Key : Type 0} (eq : Symbol → Symbol → Bool) (laws : Is
         not-distinct eq laws.symm (map (λ x. x.1) (take n entries)) (map (λ x. x.1) (drop (n + 1) entries)) e.1 (absent true found)
         (subst (IsDistinct eq) all d)
 
+  -- if all symbols were seen once, they differ
   pub seen-all : (has : Key → Bool) (n : ℕ) → AreSeen has n → length entries ≤ n → IsDistinct eq (map (λ x. x.1) entries)
   seen-all has n seen all = subst (λ (xs : List (Word × Symbol)). IsDistinct eq (map (λ x. x.1) xs)) (take_all n entries all) seen.distinct

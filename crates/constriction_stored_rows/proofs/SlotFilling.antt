@@ -29,6 +29,7 @@ slots-all precision slot_bits =
     let split : 2 ^ (count + width) ≡ 2 ^ count * 2 ^ width = pow-add 2 count width in
     rw (← split) (ap (λ n. 2 ^ n) e)
 
+-- a slot lies below 2 ^ precision
 pub slot-within : (precision slot_bits j : ℕ) → j < slot_count precision slot_bits
     → j * slot_width precision slot_bits + slot_width precision slot_bits ≤ 2 ^ precision
 slot-within precision slot_bits j h =
@@ -85,11 +86,13 @@ module _ (w left : ℕ) (some : 0 < w) where
       let up : left + (w - 1) < (left + (w - 1)) / w * w + w = lt-div-mul-add some in
       (whole-part w left ((left + (w - 1)) / w) some).1 (omega arith)
 
+  -- the first slot that begins at or after a row's is at most the next one
   pub up-most : (left + (w - 1)) / w ≤ left / w + 1
   up-most =
       let down : left < left / w * w + w = lt-div-mul-add some in
       (whole-part w (left + (w - 1)) (left / w + 1) some).1 (omega (arith, slot-more (left / w) w))
 
+  -- with two words a slot, a row's first word is found by two divisions
   pub first-word : words_a_slot w ≡ 2 → IsFirstWord w left (left / w + (left + (w - 1)) / w)
   first-word two = record {
     first = λ j.

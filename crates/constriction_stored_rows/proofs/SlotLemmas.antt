@@ -25,6 +25,7 @@ pub record MeetsSlot {Symbol : Type 0} (width slot : ℕ) (row : Row Symbol) : T
 pub slot-from : (precision slot_bits q : ℕ) → q / slot_width precision slot_bits * slot_width precision slot_bits ≤ q
 slot-from precision slot_bits q = div-mul-le_self q (slot_width precision slot_bits)
 
+-- a quantile is at most the last one of its slot
 pub slot-to : (precision slot_bits q : ℕ)
     → q ≤ q / slot_width precision slot_bits * slot_width precision slot_bits + (slot_width precision slot_bits - 1)
 slot-to precision slot_bits q =
@@ -57,11 +58,13 @@ module _ {W E : Type 0} (whole : W → ℕ) (left_of : E → ℕ) (entries : Lis
     alone : words_a_slot width ≡ 1
     alone = omega (arith, one)
 
+    -- a slot of one word is in the table
     pub alone-within : slot < length table
     alone-within =
         let long : length (map whole table) ≡ 1 * count = rw alone at s.long in
         omega (arith, long, length-map table whole)
 
+    -- its word is the one row that meets it
     pub slot-alone : (w : W) → w ≡ get_or table slot w → IsSlot (map left_of entries) width slot (whole w) (whole w)
     slot-alone w is =
         let same : 1 * slot ≡ slot = omega arith in
@@ -71,6 +74,7 @@ module _ {W E : Type 0} (whole : W → ℕ) (left_of : E → ℕ) (entries : Lis
           to = word-at (slot * width + (width - 1)) slot w alone-within is (rw same_last at (rw alone at (s.words.last slot)));
         }
 
+    -- this row is one of the rows
     pub alone-row : (w : W) → w ≡ get_or table slot w → whole w < length entries
     alone-row w is = row-within (slot * width) w (slot-alone w is).from
 
@@ -79,6 +83,7 @@ module _ {W E : Type 0} (whole : W → ℕ) (left_of : E → ℕ) (entries : Lis
     both : words_a_slot width ≡ 2
     both = omega (arith, more)
 
+    -- both words of a slot are in the table
     pub pair-within : 2 * slot + 1 < length table
     pair-within =
         let long : length (map whole table) ≡ 2 * count = rw both at s.long in
@@ -90,12 +95,15 @@ module _ {W E : Type 0} (whole : W → ℕ) (left_of : E → ℕ) (entries : Lis
     last : (b : W) → b ≡ get_or table (2 * slot + 1) b → IsLastAtMost (map left_of entries) (slot * width + (width - 1)) (whole b)
     last b is = word-at (slot * width + (width - 1)) (2 * slot + 1) b pair-within is (rw both at (s.words.last slot))
 
+    -- its first row is one of the rows
     pub pair-first : (a : W) → a ≡ get_or table (2 * slot) a → whole a < length entries
     pair-first a is = row-within (slot * width) a (first a is)
 
+    -- its last row is one of the rows
     pub pair-last : (b : W) → b ≡ get_or table (2 * slot + 1) b → whole b < length entries
     pair-last b is = row-within (slot * width + (width - 1)) b (last b is)
 
+    -- its words are the first and the last row that meet it
     pub slot-pair : (a b : W) → a ≡ get_or table (2 * slot) a → b ≡ get_or table (2 * slot + 1) b
         → IsSlot (map left_of entries) width slot (whole a) (whole b)
     slot-pair a b is_first is_last = record { from = first a is_first; to = last b is_last }
@@ -107,10 +115,12 @@ last-order lefts x y i k a b h = elim (cases_lt k i) [
   | inr not ↦ not
 ]
 
+-- the first of these is not after the last
 pub slot-order : (lefts : List ℕ) (width slot first last : ℕ) → IsSlot lefts width slot first last → first ≤ last
 slot-order lefts width slot first last s =
     last-order lefts (slot * width) (slot * width + (width - 1)) first last s.from s.to (omega arith)
 
+-- a part of the words has the numbers of that part
 pub part-whole : {W : Type 0} (whole : W → ℕ) (xs : List W) (first count : ℕ)
     → map whole (take count (drop first xs)) ≡ take count (drop first (map whole xs))
 part-whole whole xs first count = sym (take-map whole count (drop first xs)) ∙ ap (take count) (sym (drop-map whole first xs))
@@ -151,6 +161,7 @@ module _ (lefts : List ℕ) (up : IsStrictlyIncreasing lefts) (width slot first 
   part-some : 0 < length known
   part-some = omega (arith, p.long, slot-order lefts width slot first p.last p.rows)
 
+  -- the rows that meet a slot can be searched for its quantiles
   pub part-searchable : (q : ℕ) → slot * width ≤ q → IsSearchable known q
   part-searchable q low =
       let e : first + 0 ≡ first = omega arith in
@@ -163,6 +174,7 @@ module _ (lefts : List ℕ) (up : IsStrictlyIncreasing lefts) (width slot first 
         begins = rw (part-at 0 part-some, e) (omega (arith, p.rows.from.at_most));
       }
 
+  -- the row that is found among them is the row among all
   pub part-found : (q i : ℕ) → q ≤ slot * width + (width - 1) → IsLastAtMost known q i → IsLastAtMost lefts q (first + i)
   part-found q i h f = record {
     in_bounds = omega (arith, part-within, f.in_bounds);

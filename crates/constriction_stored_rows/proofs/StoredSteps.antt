@@ -10,6 +10,7 @@ use Rattle.constriction_stored_rows.proofs.CdfLemmas.{cdf-long, cdf-rows}
 
 -- the rows of a stored cdf that are left
 module _ (bits precision : ℕ) (cdf : List ℕ) (t : IsCdf bits precision cdf) where
+  -- as many rows are left as lie between the two ends
   pub length-stored : (i j : ℕ) → j < length cdf → length (rows_stored precision cdf i j) ≡ j - i
   length-stored i j h =
       length-between (contiguous_rows (weights_of precision (lefts_in cdf))) i j (omega (arith, cdf-rows bits precision cdf t))
@@ -22,6 +23,7 @@ module _ (bits precision : ℕ) (cdf : List ℕ) (t : IsCdf bits precision cdf) 
   stored-here i l w h le we =
       stored-at bits precision (lefts_in cdf) t.stored i _ (omega (arith, cdf-long bits precision cdf t)) ∙ rw (← le, ← we) refl
 
+  -- the first row that is left, and the others
   pub first-stored : (i j l w : ℕ) → i < j → j < length cdf
       → l ≡ get_or (lefts_in cdf) i 0 → w ≡ get_or (weights_of precision (lefts_in cdf)) i 0
       → rows_stored precision cdf i j ≡ record { symbol = i; left = l; weight = w } ∷ rows_stored precision cdf (i + 1) j
@@ -29,6 +31,7 @@ module _ (bits precision : ℕ) (cdf : List ℕ) (t : IsCdf bits precision cdf) 
       first-between (contiguous_rows (weights_of precision (lefts_in cdf))) i j _ h (omega (arith, cdf-rows bits precision cdf t))
       (stored-here i l w (omega arith) le we)
 
+  -- the last row that is left, and the others
   pub last-stored : (i j l w : ℕ) → i < j → j < length cdf
       → l ≡ get_or (lefts_in cdf) (j - 1) 0 → w ≡ get_or (weights_of precision (lefts_in cdf)) (j - 1) 0
       → rows_stored precision cdf i j

@@ -23,15 +23,18 @@ module _ {S : Type 0} (bits precision : ℕ) (rows : List (Row S)) (t : RowsTile
   pub tiles-stored : IsStored bits precision (map (λ r. r.left) rows)
   tiles-stored = (stored-of_rows bits precision rows t).0
 
+  -- there are as many left cumulatives as rows
   pub tiles-many : length (map (λ r. r.left) rows) ≡ length rows
   tiles-many = length-map rows (λ r. r.left)
 
   tiles-long : length (map (λ r. r.symbol) rows) ≡ length (map (λ r. r.left) rows)
   tiles-long = length-map rows (λ r. r.symbol) ∙ sym tiles-many
 
+  -- the left cumulatives of rows that tile increase
   pub tiles-increase : IsStrictlyIncreasing (map (λ r. r.left) rows)
   tiles-increase = stored-increases bits precision (map (λ r. r.left) rows) tiles-stored
 
+  -- the row at an index begins where the one before it ends
   pub tile-at : (i : ℕ) (d : Row S) → i < length rows → IsTile precision rows i (get_or rows i d)
   tile-at i d h =
       let lefts : List ℕ = map (λ r. r.left) rows in
@@ -74,9 +77,11 @@ module _ {S : Type 0} (bits precision : ℕ) (rows : List (Row S)) (t : RowsTile
 
 -- the same for a stored cdf that lends its left cumulatives
 module _ (bits precision : ℕ) (cdf lefts : List ℕ) (t : IsCdf bits precision cdf) (e : lefts ≡ lefts_in cdf) where
+  -- the left cumulatives of a cdf are those of its rows
   pub cdf-lefts : lefts ≡ map (λ r. r.left) (contiguous_rows (weights_of precision (lefts_in cdf)))
   cdf-lefts = e ∙ sym (stored-lefts bits precision (lefts_in cdf) t.stored)
 
+  -- a probe of a cdf finds the row of a quantile
   pub cdf-probed : TellsRows (contiguous_rows (weights_of precision (lefts_in cdf))) (λ _. ⊤) 0 lefts
       × ((q : ℕ) → IsSearchable lefts q)
       × ((q i : ℕ) → q < 2 ^ precision → IsLastAtMost lefts q i

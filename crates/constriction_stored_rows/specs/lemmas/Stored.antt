@@ -8,6 +8,7 @@ use Rattle.constriction_model.specs.Acceptance.{IsAccepted}
 use Rattle.constriction_model.specs.Rows.{Row, rows_from, RowsTile}
 use Rattle.constriction_stored_rows.specs.Stored.{lefts_from, gaps, weights_of, IsStored}
 
+-- there are as many differences as left cumulatives
 pub length-gaps : (t : ℕ) (ls : List ℕ) → length (gaps t ls) ≡ length ls
 length-gaps t [] = refl
 length-gaps t (l ∷ []) = refl
@@ -40,10 +41,12 @@ pub record IsRowAt (bits precision : ℕ) (lefts : List ℕ) (i w : ℕ) : Type 
   pub next : i + 1 < length lefts → get_or lefts (i + 1) 0 ≡ get_or lefts i 0 + w
   pub last : i + 1 ≡ length lefts → get_or lefts i 0 + w ≡ 2 ^ precision
 
+-- as many elements as there are, are all
 pub take-length : {A : Type 0} (ws : List A) → take (length ws) ws ≡ ws
 take-length [] = refl
 take-length (w ∷ ws) = ap (λ xs. w ∷ xs) (take-length ws)
 
+-- the row at an index has the left cumulative and the weight there
 pub stored-row : (bits precision : ℕ) (lefts : List ℕ) (i : ℕ) → IsStored bits precision lefts → i < length lefts
     → IsRowAt bits precision lefts i (get_or (weights_of precision lefts) i 0)
 stored-row bits precision lefts i t h =
@@ -67,6 +70,7 @@ stored-row bits precision lefts i t h =
           omega arith;
     }
 
+-- some row is stored
 pub stored-some : (bits precision : ℕ) (lefts : List ℕ) → IsStored bits precision lefts → 0 < length lefts
 stored-some bits precision [] t = absurd (omega (arith, t.accepted.tiles.total, pow_pos precision))
 stored-some bits precision (l ∷ ls) t = omega arith

@@ -15,6 +15,7 @@ module _ {Symbol : Type 0} (bits precision : ℕ) (ss : List Symbol) (lefts : Li
   pub symbols-many : length ss ≡ length (weights_of precision lefts)
   symbols-many = long ∙ sym (length-gaps (2 ^ precision) lefts)
 
+  -- there are as many rows as left cumulatives
   pub symbol-rows_many : length (rows_of ss (weights_of precision lefts)) ≡ length lefts
   symbol-rows_many = length-rows_from 0 ss (weights_of precision lefts) symbols-many ∙ length-gaps (2 ^ precision) lefts
 
@@ -29,6 +30,7 @@ module _ {Symbol : Type 0} (bits precision : ℕ) (ss : List Symbol) (lefts : Li
       rows_from-at 0 ss ws i d symbols-many here
       ∙ ap (λ l. record { symbol = get_or ss i d.symbol; left = l; weight = get_or ws i 0 }) left
 
+  -- the rows of symbols and stored cumulatives tile
   pub symbol-rows_tile : RowsTile bits precision (rows_of ss (weights_of precision lefts))
   symbol-rows_tile =
       let ws : List ℕ = weights_of precision lefts in
@@ -62,9 +64,11 @@ module _ {Symbol : Type 0} (bits precision : ℕ) (ss : List Symbol) (lefts : Li
 -- the same for entries, which have a left cumulative and a symbol each
 module _ {Symbol Word : Type 0} (whole : Word → ℕ) (bits precision : ℕ) (entries : List (Word × Symbol))
     (t : IsStored bits precision (map (λ x. whole x.0) entries)) where
+  -- there are as many symbols as words
   pub paired-long : length (map (λ x. x.1) entries) ≡ length (map (λ x. whole x.0) entries)
   paired-long = length-map entries (λ x. x.1) ∙ sym (length-map entries (λ x. whole x.0))
 
+  -- the rows of entries that store them tile
   pub paired-tiles : RowsTile bits precision (rows_paired whole precision entries)
   paired-tiles = symbol-rows_tile bits precision (map (λ x. x.1) entries) (map (λ x. whole x.0) entries) t paired-long
 
