@@ -2,8 +2,8 @@
 #![tactic(auto)]
 
 use constriction::stream::model::ContiguousCategoricalEntropyModel;
-use constriction_coders::stack::AnsCoder;
 use constriction_coders::Decode;
+use constriction_coders::stack::AnsCoder;
 
 /// Weights that add up to `2^12`.
 type Model = ContiguousCategoricalEntropyModel<u32, Vec<u32>, 12>;

@@ -137,7 +137,7 @@ where
         (zip answers.items models.now) (read_by decoder.old) left) }
 {
     let mut answers = Vec::new(alloc);
-    for answer in decode_symbols::<_, &D, &[D], PRECISION>(&mut coder, models) {
+    for answer in decode_symbols::<_, &D, &[D], PRECISION>(decoder, models) {
         let symbol = answer?;
         match answers.push(symbol) {
             Ok(()) => {}

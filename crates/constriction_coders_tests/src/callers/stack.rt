@@ -11,12 +11,12 @@ use constriction::backends::Cursor;
 use constriction::laws::contiguous_symbols_differ;
 use constriction::stream::model::{DecoderModel, EncoderModel, EntropyModel, UniformModel};
 use constriction::{CoderError, Pos, Seek};
+use constriction_coders::Decode;
 use constriction_coders::laws::{
     back_and_there, binary_comes_back, bits_come_back, encoded_once, may_be_held, symbols_come_back,
 };
 use constriction_coders::stack::AnsCoder;
 use constriction_coders::stack::bits_back::{decode, encode};
-use constriction_coders::Decode;
 use std::alloc::Global;
 
 /// Why no symbols were decoded.

@@ -15,7 +15,7 @@ loop-answer-init g c =
     let goes_on = ap (λ w. fuse_done w.models) walk ∙ made.begun in
     let none = c.new-answers.ensures.items in
     record {
-      next = λ _. tt;
+      next = (tt, λ _. tt);
       ends = rw goes_on tt;
       same_coder = refl;
       goes_on = goes_on;
@@ -34,7 +34,7 @@ loop-answer-preserved g c =
     ≡ step.1.0.now ∷ iter_rest (fuse_source c.next.new.self.models) = rw h.goes_on at step.1.1.0 in
     let more = beside-more answers c.in_ok-symbol.symbol models step.1.0.now (iter_rest (fuse_source c.next.new.self.models)) (h.left ∙ shows) in
     record {
-      next = λ _. tt;
+      next = (tt, λ _. tt);
       ends = rw step.1.1.1 tt;
       same_coder = step.0 ∙ h.same_coder;
       goes_on = step.1.1.1;

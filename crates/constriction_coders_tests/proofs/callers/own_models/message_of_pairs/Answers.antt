@@ -9,10 +9,11 @@ pub returns-in-Ok-into_compressed : goal.returns-in-Ok-into_compressed
 returns-in-Ok-into_compressed g c = λ rest shows.
     let took = c.encode_symbols.ensures in
     let all = rw c.in-Ok.is at took.2 in
-    let Step = (λ s. IsNarrowed (entry_by g.E.EncoderModel.symbol_eq g.E.EntropyModel.rows s) g.row.PRECISION) in
     let given = all-given g.I.Iterator.next_gives rest shows all.0 took.0 all.1.1.0 all.1.0 all.1.1.1 all.1.1.2 in
     let whole_list = ap rest (sym took.1) ∙ given in (
       c.encode_symbols.new.self,
-      rw c.new-coder.ensures at (subst (λ ps. InTurn Step ps c.new-coder.result c.encode_symbols.new.self) (sym whole_list) all.2),
+      rw c.new-coder.ensures at (subst (λ ps.
+      InTurn (λ s. IsNarrowed (entry_by g.E.EncoderModel.symbol_eq g.E.EntropyModel.rows s) g.row.PRECISION) ps c.new-coder.result
+      c.encode_symbols.new.self) (sym whole_list) all.2),
       c.in-Ok-into_compressed.ensures.ok,
     )

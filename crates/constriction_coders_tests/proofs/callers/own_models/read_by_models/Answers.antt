@@ -16,13 +16,13 @@ loop-answer-init g c =
     let none = c.new-answers.ensures.items in
     record {
       next =
-          (subst (λ d. g.Source.ReadWords.can_read d.words) (sym (ap (λ w. w.decoder.now) walk ∙ made.decoder)) c.requires, λ _. tt);
+          (subst (λ d. g.Source.ReadWords.can_read d.words) (sym (ap (λ w. w.coder.now) walk ∙ made.coder)) c.requires, λ _. tt);
       ends = rw goes_on tt;
       same_decoder = refl;
       goes_on = goes_on;
       few = rw none (omega arith);
       left = rw none (sym (ap (λ w. iter_rest (fuse_source w.models)) walk ∙ made.models.0));
-      so_far = rw none (ap held_by (sym (ap (λ w. w.decoder.now) walk ∙ made.decoder)));
+      so_far = rw none (ap held_by (sym (ap (λ w. w.coder.now) walk ∙ made.coder)));
     }
 
 pub loop-answer-preserved : goal.loop-answer-preserved
@@ -54,4 +54,4 @@ returns-clause-count g c =
     beside-all c.loop-answer.answers.items c.args.models.now _ h.left none.0 h.few
 
 pub returns-clause-run : goal.returns-clause-run
-returns-clause-run g c = (held_by c.loop-answer.answer-iterator.decoder.now, c.loop-answer.invariant.so_far)
+returns-clause-run g c = (held_by c.loop-answer.answer-iterator.coder.now, c.loop-answer.invariant.so_far)

@@ -12,11 +12,11 @@ abbrev pub invariant-loop-answer : goal.invariant-loop-answer
 invariant-loop-answer g l = record {
   next : (goal.iterator-loop-answer g).can_next l.answer-iterator;
   ends : (goal.iterator-loop-answer g).is_finite l.answer-iterator;
-  same_decoder : l.answer-iterator.decoder.ghost_name ≡ l.initial.answer-iterator.decoder.ghost_name;
+  same_decoder : l.answer-iterator.coder.ghost_name ≡ l.initial.answer-iterator.coder.ghost_name;
   goes_on : fuse_done l.answer-iterator.models ≡ false;
   few : length l.answers.items ≤ length l.models;
   left : drop (length l.answers.items) l.models ≡ iter_rest (fuse_source l.answer-iterator.models);
   so_far : InTurn
       (λ other. IsRead g.D.DecoderModel.stands_for (g.D.EntropyModel.rows other.1) g.Source.ReadWords.read_gives g.row.PRECISION other.0)
-      (zip l.answers.items l.models) (held_by l.fn.decoder) (held_by l.answer-iterator.decoder.now);
+      (zip l.answers.items l.models) (held_by l.fn.decoder) (held_by l.answer-iterator.coder.now);
 }
