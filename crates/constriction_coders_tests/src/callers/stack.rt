@@ -43,7 +43,10 @@ where
         Ok(()) => {}
         Err(_) => return None,
     }
-    coder.into_compressed().ok()
+    match coder.into_compressed() {
+        Ok(words) => Some(words),
+        Err(_) => None,
+    }
 }
 
 /// Decodes `count` symbols from words that are only lent. If these are the words of `count` symbols, the symbols come back, and the words are not refused.

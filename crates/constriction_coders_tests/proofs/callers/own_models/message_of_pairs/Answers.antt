@@ -13,7 +13,7 @@ returns-in-Ok-into_compressed g c = λ rest shows.
     let whole_list = ap rest (sym took.1) ∙ given in (
       c.encode_symbols.new.self,
       rw c.new-coder.ensures at (subst (λ ps.
-      InTurn (λ s. IsNarrowed (entry_by g.E.EncoderModel.symbol_eq g.E.EntropyModel.rows s) g.row.PRECISION) ps c.new-coder.result
-      c.encode_symbols.new.self) (sym whole_list) all.2),
+          InTurn (λ s. IsNarrowed (entry_by g.E.EncoderModel.symbol_eq g.E.EntropyModel.rows s) g.row.PRECISION) ps c.new-coder.result
+          c.encode_symbols.new.self) (sym whole_list) all.2),
       c.in-Ok-into_compressed.ensures.ok,
     )
