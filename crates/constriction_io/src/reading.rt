@@ -23,7 +23,7 @@ pub enum ReadError {
 /// The most bytes that one turn of a reader takes.
 const CHUNK: usize = 8192;
 
-/// Reads once. A read that is interrupted is tried again.
+/// Reads once. A read that is interrupted is tried again, and is `TimedOut` after 2^64 - 1 tries.
 fn read_turn<R: Read>(reader: &mut R, chunk: &mut [u8]) -> io::Result<usize>
     ensures bound { ReadsAtMost result chunk.new }
     ensures bytes { ReadConsumes (R.remaining reader.old) (R.remaining reader.new) result
@@ -55,10 +55,10 @@ pub fn read_up_to<R: Read>(
         × (input.new.items ≡ input.old.items ++ bytes)) }
     ensures most { OnOk result (length input.new.items ≤ most) }
     ensures end { OnOk result (length input.new.items < most → IsAtEnd (R.remaining reader.new)) }
-    ensures err { IfErr result (λ error. (bytes lost : List ℕ)
-        × Consumes (R.remaining reader.old) (R.remaining reader.new) bytes
-        × (input.new.items ++ lost ≡ input.old.items ++ bytes)
-        × (length input.old.items + length bytes ≤ most)
+    ensures err { IfErr result (λ error. (kept lost : List ℕ)
+        × Consumes (R.remaining reader.old) (R.remaining reader.new) (kept ++ lost)
+        × (input.new.items ≡ input.old.items ++ kept) × (length input.new.items < most)
+        × (length input.new.items + length lost ≤ most)
         × (error ≢ ReadError.OutOfMemory → lost ≡ [])) }
     ensures retried { (error : _) → result ≡ Err (ReadError.Reader error)
         → error_kind error ≢ ErrorKind.Interrupted }

@@ -14,7 +14,7 @@ use thiserror::Error;
 #[error("{0}")]
 pub struct WriteError(pub io::Error);
 
-/// Writes once. A write that is interrupted is tried again.
+/// Writes once. A write that is interrupted is tried again, and is `TimedOut` after 2^64 - 1 tries.
 fn write_turn<W: Write>(writer: &mut W, bytes: &[u8]) -> io::Result<usize>
     ensures bound { WritesAtMost result bytes.now }
     ensures bytes { WriteAppends (W.contents writer.old) (W.contents writer.new) result bytes.now }

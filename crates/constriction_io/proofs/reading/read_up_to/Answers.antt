@@ -1,5 +1,4 @@
-use Rattle.std.proofs.Common.{◌≡◌, ◌+◌, ◌≤◌, ◌++◌, [], take, length, ap, refl, ◌∙◌, append-nil}
-use Rattle.std.proofs.Common.{append_assoc, arith, length-append, rules}
+use Rattle.std.proofs.Common.{◌≡◌, ◌+◌, ◌≤◌, [], take, length, refl, ◌∙◌, append-nil, arith, rules}
 use Rattle.std.proofs.KnownBytes.{Consumes-kept, Consumes-trans}
 use Rattle.constriction_io.proofs.reading.read_up_to.Goals as goal
 
@@ -8,14 +7,11 @@ returns-in-Err-clause-err g c =
     let so_far = c.loop-chunk.invariant in (
       so_far.read.0,
       [],
-      Consumes-kept _ _ _ so_far.read.0 so_far.read.1 c.in-Err.ensures.bytes,
-      append-nil c.loop-chunk.input.items ∙ so_far.read.2,
-      omega (
-        arith,
-        so_far.most,
-        ap length so_far.read.2,
-        length-append c.args.input.now.items so_far.read.0,
-      ),
+      rw (append-nil so_far.read.0)
+          (Consumes-kept _ _ _ so_far.read.0 so_far.read.1 c.in-Err.ensures.bytes),
+      so_far.read.2,
+      search rules,
+      omega (arith, so_far.most),
       λ _. refl,
     )
 
@@ -25,17 +21,11 @@ returns-then-is_err-clause-err g c =
     let last = take c.in-Ok.count c.read_turn.new.chunk in
     let same : c.extend_from_slice.new.self.items ≡ c.loop-chunk.input.items = search rules in
     let room : length c.loop-chunk.input.items + length last ≤ c.args.most = search rules in (
-      so_far.read.0 ++ last,
+      so_far.read.0,
       last,
       Consumes-trans _ _ _ so_far.read.0 last so_far.read.1 c.in-Ok.ensures.bytes.0,
-      ap (λ xs. xs ++ last) (same ∙ so_far.read.2)
-          ∙ append_assoc c.args.input.now.items so_far.read.0 last,
-      omega (
-        arith,
-        room,
-        ap length so_far.read.2,
-        length-append c.args.input.now.items so_far.read.0,
-        length-append so_far.read.0 last,
-      ),
+      same ∙ so_far.read.2,
+      rw same (search rules),
+      rw same room,
       λ other. absurd (other refl),
     )
