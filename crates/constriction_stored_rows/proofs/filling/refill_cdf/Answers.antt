@@ -1,4 +1,4 @@
-use Rattle.std.proofs.Common.{◌≡◌, map, rules, zero-add}
+use Rattle.std.proofs.Common.{map, rules, zero-add}
 use Rattle.std.specs.Prelude.{sum}
 use Rattle.constriction_stored_rows.proofs.FillLemmas.{lefts_from-push}
 use Rattle.constriction_stored_rows.proofs.RefillLemmas.{slice-good, slice-bad}
