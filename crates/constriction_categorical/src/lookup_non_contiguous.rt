@@ -92,8 +92,7 @@ impl<
     const PRECISION: usize,
     const SLOT_BITS: usize,
 > OwnLookupDecoderModel<Symbol, Probability, PRECISION, SLOT_BITS> {
-    /// As [`NonContiguousCategoricalDecoderModel::from_symbols_and_nonzero_fixed_point_probabilities`], and with a lookup
-    /// table. `InvalidTable` comes before it is made, `OutOfMemory` also if memory for it is refused.
+    /// As the constructor of this name of [`NonContiguousCategoricalDecoderModel`], and with a lookup table. `InvalidTable` comes before it is made, `OutOfMemory` also if memory for it is refused.
     ///
     /// Two passes over the rows and one allocation for the lookup table are added.
     #[tactic(auto, using(crate::proofs::Remade::error_of_both))]
