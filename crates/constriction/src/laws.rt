@@ -1,5 +1,5 @@
-//! Laws that follow from the contracts of models. Each is the contract of a function, and holds for each
-//! type that implements the traits, a caller's own too.
+//! Laws that follow from the contracts of models. Each is the contract of a function, and holds for
+//! each type that implements the traits, a caller's own too.
 
 pub use constriction_conversions::laws::{
     answers_are_in_table, non_contiguous_lookup_symbols_differ, non_contiguous_symbols_differ,

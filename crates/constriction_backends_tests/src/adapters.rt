@@ -186,7 +186,8 @@ fn the_second_read_ends_where_one_item_was_left(rt: HostRuntime) {
     same(&rt, two_of_items(&ITEMS), (Ok(Some(1)), Err('x')));
 }
 
-/// What a callback that counts its calls answers to the third call, after it was taken out of its sink.
+/// What a callback that counts its calls answers to the third call, after it was taken out of its
+/// sink.
 fn calls_of_three(word: u8) -> Result<(), u8>
     ensures { result ≡ Err 3 }
 {

@@ -29,19 +29,20 @@ fn begins<Buf: SafeBufMut<u8> + Drop>(rt: &impl Abort, buf: Buf) -> Buf {
     buf
 }
 
-/// What a cursor answers to the words of an iterator. If it took them, they stand in order after the words
-/// that were written before.
+/// What a cursor answers to the words of an iterator. If it took them, they stand in order after
+/// the words that were written before.
 fn extended<Buf: SafeBufMut<u8>>(
     cursor: &mut Cursor<u8, Buf>,
     added: &[u8],
 ) -> Result<(), BoundedWriteError>
-    ensures { OnOk result ((state_of cursor.new).before ≡ (state_of cursor.old).before ++ added.now) }
+    ensures { OnOk result
+        ((state_of cursor.new).before ≡ (state_of cursor.old).before ++ added.now) }
 {
     laws::extending_counts(cursor, added.iter().copied())
 }
 
-/// Words to write to a cursor of three words from its second one on, whether they are too many, and the words of the cursor
-/// then.
+/// Words to write to a cursor of three words from its second one on, whether they are too many, and
+/// the words of the cursor then.
 const FILLS: [(&[u8], bool, [u8; 3]); 2] = [
     (&[1, 2, 3], true, [10, 1, 2]),
     (&[20, 30], false, [10, 20, 30]),
@@ -58,8 +59,8 @@ fn is_filled<Buf: SafeBufMut<u8>>(rt: &impl Abort, buf: Buf) -> Buf {
     cursor.into_buf_and_pos().0
 }
 
-/// What a cursor of one word answers to the words of an iterator, which word the iterator gives next, and which word was
-/// written.
+/// What a cursor of one word answers to the words of an iterator, which word the iterator gives
+/// next, and which word was written.
 fn next_after_a_refusal(words: &[u8]) -> (Result<(), BoundedWriteError>, Option<u8>, u8) {
     let mut place = [0u8];
     let buf: &mut [u8; 1] = &mut place;

@@ -2,8 +2,8 @@
 //!
 //! The tests of words call through a bound, and at a word type of a caller's own.
 //!
-//! The libraries have no tests of their own, because a library with tests is proved twice. These tests use the public
-//! interface alone. Those of the folder `tried` are run and not proved.
+//! The libraries have no tests of their own, because a library with tests is proved twice. These
+//! tests use the public interface alone. Those of the folder `tried` are run and not proved.
 #![tactic(auto)]
 
 #[cfg(test)]

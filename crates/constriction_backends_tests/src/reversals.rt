@@ -58,8 +58,8 @@ fn a_reversal_may_be_exhausted_where_its_backend_may(rt: HostRuntime) {
     );
 }
 
-/// Of a reversed stack, read as a queue: the number of its words, the word that it reads, and then their number and its
-/// position.
+/// Of a reversed stack, read as a queue: the number of its words, the word that it reads, and then
+/// their number and its position.
 fn read_as_a_queue(reversed: &mut Reverse<Vec<u8>>) -> (usize, Option<u8>, usize, usize) {
     let count = BoundedReadWords::<u8, Queue>::remaining(reversed);
     let word = ReadWords::<u8, Queue>::read(reversed).unwrap_infallible();

@@ -111,7 +111,8 @@ fn there_and_back_in_a_vec(words: &mut Vec<u8>, word: u8) -> Result<Option<u8>, 
 fn read_once<Backend: StackSource<u8>>(
     backend: &mut Backend,
 ) -> Result<Option<u8>, Backend::ReadError>
-    ensures { Backend.words_of backend.old ≡ [] → (result ≡ Ok None) × (Backend.words_of backend.new ≡ []) }
+    ensures { Backend.words_of backend.old ≡ []
+        → (result ≡ Ok None) × (Backend.words_of backend.new ≡ []) }
 {
     backend.pop()
 }
@@ -163,8 +164,8 @@ fn a_popped_word_leaves_its_place(rt: HostRuntime) {
     holds(&rt, &reversed.0, &[1, 2, 5]);
 }
 
-/// Writes two words to any stack and reads them, as a stack coder does. They come back, the second one first, and then
-/// the stack has its old words.
+/// Writes two words to any stack and reads them, as a stack coder does. They come back, the second
+/// one first, and then the stack has its old words.
 fn there_and_back<Backend: WordStack<u8>>(
     backend: &mut Backend,
     first: u8,
@@ -173,7 +174,8 @@ fn there_and_back<Backend: WordStack<u8>>(
 where
     Backend::WriteError: Drop,
     Backend::ReadError: Drop,
-    ensures { IfSome result (λ read. (read ≡ (Some second, Some first)) × (Backend.words_of backend.new ≡ Backend.words_of backend.old)) }
+    ensures { IfSome result (λ read. (read ≡ (Some second, Some first))
+        × (Backend.words_of backend.new ≡ Backend.words_of backend.old)) }
 {
     laws::written_is_read::<u8, Backend>();
     let Ok(()) = backend.write(first) else {

@@ -182,7 +182,8 @@ fn a_source_is_exhausted_where_nothing_remains(rt: HostRuntime) {
     }
 }
 
-/// The words of an iterator, how many places are free then, and whether the iterator and one more word are refused.
+/// The words of an iterator, how many places are free then, and whether the iterator and one more
+/// word are refused.
 const EXTENDED: [(&[u8], usize, bool); 2] = [(&[1, 2, 3], 2, false), (&[4, 5], 0, true)];
 
 #[test]

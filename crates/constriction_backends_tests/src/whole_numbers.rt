@@ -1,4 +1,5 @@
-//! Words as whole numbers: what generic code learns from the bound alone, and the ends of each width.
+//! Words as whole numbers: what generic code learns from the bound alone, and the ends of each
+//! width.
 
 ghost use Rattle.std.specs.Prelude.{◌≡◌, ◌+◌, ◌-◌, ◌<◌, ◌%◌, ◌^◌};
 

@@ -60,24 +60,28 @@ impl<Probability: WholeNumber, const PRECISION: usize> ContiguousCategoricalEntr
 > {
     ghost use Rattle.constriction_categorical.specs.ModelRows.{contiguous_model_rows};
 
-    /// The model of these weights. If the last weight is inferred, it is what the given weights leave of `2^PRECISION`, and
-    /// there is one more symbol than given weights.
+    /// The model of these weights. If the last weight is inferred, it is what the given weights
+    /// leave of `2^PRECISION`, and there is one more symbol than given weights.
     ///
-    /// The weights are accepted if and only if all, with the inferred one, are positive, add up to `2^PRECISION` and are
-    /// words. So the single weight `2^PRECISION`, given or inferred, is accepted only below the full width of the word. If
-    /// the weights are not accepted, `InvalidTable` comes after the iterator was read to its end, or as soon as no list
-    /// with this beginning is accepted. `OutOfMemory` comes if memory for the cdf is refused.
+    /// The weights are accepted if and only if all, with the inferred one, are positive, add up to
+    /// `2^PRECISION` and are words. So the single weight `2^PRECISION`, given or inferred, is
+    /// accepted only below the full width of the word. If the weights are not accepted,
+    /// `InvalidTable` comes after the iterator was read to its end, or as soon as no list with this
+    /// beginning is accepted. `OutOfMemory` comes if memory for the cdf is refused.
     ///
-    /// One pass over the weights, one word of memory a symbol, and one allocation if the iterator announces their number.
+    /// One pass over the weights, one word of memory a symbol, and one allocation if the iterator
+    /// announces their number.
     pub fn from_nonzero_fixed_point_probabilities<I: IntoIterator<Item = Probability>>(
         alloc: Global,
         probabilities: I,
         infer_last_probability: bool,
     ) -> Result<Self, ModelError>
         requires precision { IsPrecision Probability.BITS PRECISION }
-        requires ends { IsFiniteIterable I.into_iter_gives I.IntoIter.can_next I.IntoIter.remaining probabilities }
-        ensures { IsDecidedByWeights (IsAccepted Probability.BITS PRECISION) (completed PRECISION infer_last_probability)
-            I.into_iter_gives I.IntoIter.next_gives probabilities Probability.whole (λ m ws. contiguous_model_rows m ≡ contiguous_rows ws)
+        requires ends { IsFiniteIterable I.into_iter_gives I.IntoIter.can_next I.IntoIter.remaining
+            probabilities }
+        ensures { IsDecidedByWeights (IsAccepted Probability.BITS PRECISION)
+            (completed PRECISION infer_last_probability) I.into_iter_gives I.IntoIter.next_gives
+            probabilities Probability.whole (λ m ws. contiguous_model_rows m ≡ contiguous_rows ws)
             result }
     {
         let cdf = cdf_of::<Probability, I, PRECISION>(
@@ -91,13 +95,13 @@ impl<Probability: WholeNumber, const PRECISION: usize> ContiguousCategoricalEntr
         })
     }
 
-    /// Gives the model other weights, and as many symbols as these are for. If the last weight is inferred, it is what the
-    /// given weights leave of `2^PRECISION`.
+    /// Gives the model other weights, and as many symbols as these are for. If the last weight is
+    /// inferred, it is what the given weights leave of `2^PRECISION`.
     ///
     /// The weights are accepted if and only if
-    /// [`from_nonzero_fixed_point_probabilities`](Self::from_nonzero_fixed_point_probabilities) accepts them. If they are
-    /// not (`InvalidTable`), or if memory is refused, the model keeps its rows. Memory is requested only if the model never
-    /// had as many symbols.
+    /// [`from_nonzero_fixed_point_probabilities`](Self::from_nonzero_fixed_point_probabilities)
+    /// accepts them. If they are not (`InvalidTable`), or if memory is refused, the model keeps its
+    /// rows. Memory is requested only if the model never had as many symbols.
     ///
     /// Two passes over the weights: one judges them, and one writes the cdf in its place.
     pub fn set_weights(
@@ -107,14 +111,17 @@ impl<Probability: WholeNumber, const PRECISION: usize> ContiguousCategoricalEntr
     ) -> Result<(), ModelError>
         ensures accepted { OnOk result (IsAccepted Probability.BITS PRECISION
             (completed PRECISION infer_last_probability (map Probability.whole weights.now))) }
-        ensures rows { OnOk result (contiguous_model_rows self.new
-            ≡ contiguous_rows (completed PRECISION infer_last_probability (map Probability.whole weights.now))) }
-        ensures invalid { result ≡ Err ModelError.InvalidTable → ¬ (IsAccepted Probability.BITS PRECISION
+        ensures rows { OnOk result (contiguous_model_rows self.new ≡ contiguous_rows
+            (completed PRECISION infer_last_probability (map Probability.whole weights.now))) }
+        ensures invalid { result ≡ Err ModelError.InvalidTable
+            → ¬ (IsAccepted Probability.BITS PRECISION
             (completed PRECISION infer_last_probability (map Probability.whole weights.now))) }
         // Memory is refused only if there are more symbols than before.
-        ensures memory { result ≡ Err ModelError.OutOfMemory → length (contiguous_model_rows self.old)
-            < length (completed PRECISION infer_last_probability (map Probability.whole weights.now)) }
-        ensures err { OnErr result (contiguous_model_rows self.new ≡ contiguous_model_rows self.old) }
+        ensures memory { result ≡ Err ModelError.OutOfMemory
+            → length (contiguous_model_rows self.old) < length
+            (completed PRECISION infer_last_probability (map Probability.whole weights.now)) }
+        ensures err { OnErr result
+            (contiguous_model_rows self.new ≡ contiguous_model_rows self.old) }
     {
         refill_cdf::<Probability, PRECISION>(&mut self.cdf, weights, infer_last_probability)
     }
@@ -141,17 +148,17 @@ impl<
 > ContiguousCategoricalEntropyModel<Probability, Cdf, PRECISION> {
     ghost use Rattle.constriction_categorical.specs.ModelRows.{contiguous_model_rows};
 
-    /// The model over a buffer that is its cdf already: the left cumulatives of its symbols in order, and after them the
-    /// total, `2^PRECISION`, or 0 if that is no word.
+    /// The model over a buffer that is its cdf already: the left cumulatives of its symbols in
+    /// order, and after them the total, `2^PRECISION`, or 0 if that is no word.
     ///
-    /// One pass over the words, and no copy. If they are the cdf of no accepted weights, the buffer comes back, so its memory
-    /// serves for another try.
+    /// One pass over the words, and no copy. If they are the cdf of no accepted weights, the buffer
+    /// comes back, so its memory serves for another try.
     pub fn from_cdf(cdf: Cdf) -> Result<Self, Cdf>
         requires precision { IsPrecision Probability.BITS PRECISION }
-        ensures accepted { IfOk result (λ _. (weights : List ℕ)
-            × IsCdfOfWeights Probability.BITS PRECISION weights (map Probability.whole (Cdf.words_of cdf))) }
-        ensures rows { (weights : List ℕ)
-            → IsCdfOfWeights Probability.BITS PRECISION weights (map Probability.whole (Cdf.words_of cdf))
+        ensures accepted { IfOk result (λ _. (weights : List ℕ) × IsCdfOfWeights Probability.BITS
+            PRECISION weights (map Probability.whole (Cdf.words_of cdf))) }
+        ensures rows { (weights : List ℕ) → IsCdfOfWeights Probability.BITS PRECISION weights
+            (map Probability.whole (Cdf.words_of cdf))
             → IsOkAnd result (λ m. contiguous_model_rows m ≡ contiguous_rows weights) }
         ensures refused { IfErr result (λ buffer. buffer ≡ cdf) }
     {
@@ -175,7 +182,8 @@ impl<
     /// The left cumulatives, one word a row.
     #[inline]
     pub(crate) fn cdf_entries<'m>(&'m self) -> &'m [Probability]
-        ensures { map Probability.whole result.now ≡ lefts_in (map Probability.whole (Cdf.words_of self.now.cdf)) }
+        ensures { map Probability.whole result.now
+            ≡ lefts_in (map Probability.whole (Cdf.words_of self.now.cdf)) }
     {
         let cdf = self.cdf.words();
         &cdf[..cdf.len() - 1]
@@ -211,9 +219,9 @@ impl<
         }
     }
 
-    /// A probe of the rows in question for a quantile, here all rows, and the index of the first one. This index plus
-    /// what [`row_of_quantile`](constriction_model::row_of_quantile) answers on the probe is the index of the quantile's
-    /// row.
+    /// A probe of the rows in question for a quantile, here all rows, and the index of the first
+    /// one. This index plus what [`row_of_quantile`](constriction_model::row_of_quantile) answers
+    /// on the probe is the index of the quantile's row.
     #[inline]
     pub fn quantile_probe<'m>(
         &'m self,
@@ -221,7 +229,8 @@ impl<
     ) -> (usize, CdfProbe<'m, Probability, Cumulative>)
         requires { Probability.whole quantile < 2 ^ PRECISION }
         ensures { IsProbeFor ⟦<CdfProbe<'m, Probability, Cumulative> as Probe>⟧
-            (contiguous_model_rows self.now) (λ _. ⊤) (Probability.whole quantile) result.0 result.1 }
+            (contiguous_model_rows self.now) (λ _. ⊤) (Probability.whole quantile) result.0
+            result.1 }
     {
         (0, CdfProbe::new(self.cdf_entries()))
     }
@@ -278,8 +287,10 @@ impl<Probability: WholeNumber, Cdf: SafeBuf<Probability>, const PRECISION: usize
         requires in_range { Probability.whole quantile < 2 ^ PRECISION }
         ensures row { IfOk result (AnswersQuantile (λ s t. t ≡ s) Probability.whole Probability.base
             (contiguous_model_rows self.now) (Probability.whole quantile)) }
-        ensures within { IfOk result (λ x. LiesWithin PRECISION (row_of Probability.whole Probability.base x)) }
-        ensures refused { IfErr result (λ _. RowMayBeRefused (λ _. ⊥) (contiguous_model_rows self.now) (Probability.whole quantile)) }
+        ensures within { IfOk result (λ x.
+            LiesWithin PRECISION (row_of Probability.whole Probability.base x)) }
+        ensures refused { IfErr result (λ _. RowMayBeRefused (λ _. ⊥)
+            (contiguous_model_rows self.now) (Probability.whole quantile)) }
         ensures known { IfOk result (λ x. x.0 < length (contiguous_model_rows self.now)) }
     {
         let cdf = self.cdf.words();
@@ -310,8 +321,8 @@ impl<
         true
     }
 
-    /// All rows in order, each once: symbol, left cumulative and weight. The walk takes no memory, and
-    /// every item is a row.
+    /// All rows in order, each once: symbol, left cumulative and weight. The walk takes no memory,
+    /// and every item is a row.
     #[inline]
     fn symbol_table(self) -> ContiguousSymbolTable<'m, Probability, PRECISION> {
         let cdf = self.cdf.words();

@@ -32,7 +32,8 @@ pub type DecoderMadeOf<M, const PRECISION: usize> = NonContiguousCategoricalDeco
     PRECISION,
 >;
 
-/// The lookup model over any symbols that is made of the model `M`. It owns its entries and its lookup table.
+/// The lookup model over any symbols that is made of the model `M`. It owns its entries and its
+/// lookup table.
 pub type LookupMadeOf<M, const PRECISION: usize, const SLOT_BITS: usize> = LookupDecoderModel<
     DecoderMadeOf<M, PRECISION>,
     Vec<<M as EntropyModel<PRECISION>>::Probability>,
@@ -40,7 +41,8 @@ pub type LookupMadeOf<M, const PRECISION: usize, const SLOT_BITS: usize> = Looku
     SLOT_BITS,
 >;
 
-/// The entries of a decoder with a model's rows, if no two symbols are equal. Each symbol is compared with all before it.
+/// The entries of a decoder with a model's rows, if no two symbols are equal. Each symbol is
+/// compared with all before it.
 #[inline]
 fn compared_entries_of_model<M, const PRECISION: usize>(
     alloc: Global,
@@ -49,11 +51,13 @@ fn compared_entries_of_model<M, const PRECISION: usize>(
 where
     M: IterableEntropyModel<PRECISION>,
     M::Symbol: Eq + Drop,
-    ensures stored { IfOk result (λ v. IsStored M.Probability.BITS PRECISION (map (λ x. M.Probability.whole x.0) v.items)) }
+    ensures stored { IfOk result (λ v.
+        IsStored M.Probability.BITS PRECISION (map (λ x. M.Probability.whole x.0) v.items)) }
     ensures distinct { IfOk result (λ v. IsDistinct M.Symbol.eq (map (λ x. x.1) v.items)) }
     ensures rows { IfOk result (λ v. StandApart M.Symbol.eq M.stands_for
         (rows_paired M.Probability.whole PRECISION v.items) (M.rows model)) }
-    ensures invalid { result ≡ Err ModelError.InvalidTable → ClonesRepeat M.Symbol.eq M.stands_for (M.rows model) }
+    ensures invalid { result ≡ Err ModelError.InvalidTable
+        → ClonesRepeat M.Symbol.eq M.stands_for (M.rows model) }
 {
     let entries = entries_walked::<_, _, _, _, PRECISION>(alloc, model.symbol_table())?;
     Ok(entries)
@@ -69,11 +73,13 @@ where
     M: IterableEntropyModel<PRECISION>,
     M::Symbol: Eq + Drop,
     requires { M.is_equality M.Symbol.eq }
-    ensures stored { IfOk result (λ v. IsStored M.Probability.BITS PRECISION (map (λ x. M.Probability.whole x.0) v.items)) }
+    ensures stored { IfOk result (λ v.
+        IsStored M.Probability.BITS PRECISION (map (λ x. M.Probability.whole x.0) v.items)) }
     ensures distinct { IfOk result (λ v. IsDistinct M.Symbol.eq (map (λ x. x.1) v.items)) }
     ensures rows { IfOk result (λ v. StandApart M.Symbol.eq M.stands_for
         (rows_paired M.Probability.whole PRECISION v.items) (M.rows model)) }
-    ensures invalid { result ≡ Err ModelError.InvalidTable → ClonesRepeat M.Symbol.eq M.stands_for (M.rows model) }
+    ensures invalid { result ≡ Err ModelError.InvalidTable
+        → ClonesRepeat M.Symbol.eq M.stands_for (M.rows model) }
 {
     if model.symbols_differ() {
         uncompared_entries_of_model::<M, PRECISION>(alloc, model)
@@ -84,14 +90,17 @@ where
 
 /// The decoder model with the rows of any model that can be walked through.
 ///
-/// Its symbols are those that the walk gives: clones if the model owns its symbols. `InvalidTable` comes only if two
-/// symbols that a walk may give are equal, `OutOfMemory` if memory for the entries or for a clone is refused.
+/// Its symbols are those that the walk gives: clones if the model owns its symbols. `InvalidTable`
+/// comes only if two symbols that a walk may give are equal, `OutOfMemory` if memory for the
+/// entries or for a clone is refused.
 ///
-/// One walk. If the model knows that its symbols differ, as each model of this library does, none are compared. If it
-/// does not, each is compared with all before it: `n * (n - 1) / 2` comparisons for `n` rows.
+/// One walk. If the model knows that its symbols differ, as each model of this library does, none
+/// are compared. If it does not, each is compared with all before it: `n * (n - 1) / 2` comparisons
+/// for `n` rows.
 ///
-/// A model over any symbols requires here that a clone is equal to its symbol. If the symbols' type does not say so, take
-/// [`to_generic_decoder_model_by_comparison`]. If the caller alone knows that symbols differ, take
+/// A model over any symbols requires here that a clone is equal to its symbol. If the symbols' type
+/// does not say so, take [`to_generic_decoder_model_by_comparison`]. If the caller alone knows that
+/// symbols differ, take
 /// [`to_generic_decoder_model_of_distinct`](crate::to_generic_decoder_model_of_distinct).
 pub fn to_generic_decoder_model<M, const PRECISION: usize>(
     alloc: Global,
@@ -109,8 +118,8 @@ where
     }
 }
 
-/// As [`to_generic_decoder_model`], but each symbol is compared with all before it, whatever the model knows. So it
-/// requires nothing.
+/// As [`to_generic_decoder_model`], but each symbol is compared with all before it, whatever the
+/// model knows. So it requires nothing.
 pub fn to_generic_decoder_model_by_comparison<M, const PRECISION: usize>(
     alloc: Global,
     model: M,
@@ -126,8 +135,8 @@ where
     }
 }
 
-/// The lookup model of the decoder that [`to_generic_decoder_model`] makes. `OutOfMemory` comes also if memory for the
-/// lookup table is refused.
+/// The lookup model of the decoder that [`to_generic_decoder_model`] makes. `OutOfMemory` comes
+/// also if memory for the lookup table is refused.
 ///
 /// Two passes over the rows follow the walk.
 pub fn to_generic_lookup_decoder_model<M, const PRECISION: usize>(
@@ -187,7 +196,8 @@ impl<
     const PRECISION: usize,
     const SLOT_BITS: usize,
 > OwnLookupDecoderModel<Symbol, Probability, PRECISION, SLOT_BITS> {
-    /// As [`to_generic_slotted_lookup_decoder_model`](crate::to_generic_slotted_lookup_decoder_model).
+    /// As
+    /// [`to_generic_slotted_lookup_decoder_model`](crate::to_generic_slotted_lookup_decoder_model).
     pub fn from_iterable_entropy_model<M>(alloc: Global, model: M) -> Result<Self, ModelError>
     where
         M: IterableEntropyModel<PRECISION>

@@ -1,7 +1,7 @@
 //! Constructors of the decoder over any symbols that do not compare each symbol with all before it.
 //!
-//! [`into_lookup_decoder_model`](NonContiguousCategoricalDecoderModel::into_lookup_decoder_model) turns their
-//! models into lookup models.
+//! [`into_lookup_decoder_model`](NonContiguousCategoricalDecoderModel::into_lookup_decoder_model)
+//! turns their models into lookup models.
 
 ghost use Rattle.std.specs.Iterator.{IsFiniteIterable};
 ghost use Rattle.constriction_model.specs.Acceptance.{AreAccepted, WasReadOf, GivesDistinct};
@@ -32,17 +32,21 @@ fn entries_of_distinct<
     infer_last_probability: bool,
 ) -> Result<Vec<(Probability, Symbol)>, ModelError>
     requires precision { IsPrecision Probability.BITS PRECISION }
-    requires symbols_end { IsFiniteIterable S.into_iter_gives S.IntoIter.can_next S.IntoIter.remaining symbols }
-    requires probabilities_end { IsFiniteIterable P.into_iter_gives P.IntoIter.can_next P.IntoIter.remaining probabilities }
+    requires symbols_end { IsFiniteIterable S.into_iter_gives S.IntoIter.can_next
+        S.IntoIter.remaining symbols }
+    requires probabilities_end { IsFiniteIterable P.into_iter_gives P.IntoIter.can_next
+        P.IntoIter.remaining probabilities }
     requires distinct { GivesDistinct S.into_iter_gives S.IntoIter.next_gives Symbol.eq symbols }
-    ensures { MakesEntries Symbol.eq (AreAccepted Symbol.eq Probability.BITS PRECISION) Probability.whole Probability.BITS
-        PRECISION infer_last_probability (WasReadOf S.into_iter_gives S.IntoIter.next_gives symbols)
+    ensures { MakesEntries Symbol.eq (AreAccepted Symbol.eq Probability.BITS PRECISION)
+        Probability.whole Probability.BITS PRECISION infer_last_probability
+        (WasReadOf S.into_iter_gives S.IntoIter.next_gives symbols)
         (WasReadOf P.into_iter_gives P.IntoIter.next_gives probabilities) result }
 {
     entries_read::<_, _, _, _, PRECISION>(alloc, symbols, probabilities, infer_last_probability)
 }
 
-/// The entries of these symbols and weights, if no two of the symbols are equal. Each symbol is hashed.
+/// The entries of these symbols and weights, if no two of the symbols are equal. Each symbol is
+/// hashed.
 #[inline]
 fn entries_hashed<
     Probability: WholeNumber,
@@ -57,10 +61,13 @@ fn entries_hashed<
     infer_last_probability: bool,
 ) -> Result<Vec<(Probability, Symbol)>, ModelError>
     requires precision { IsPrecision Probability.BITS PRECISION }
-    requires symbols_end { IsFiniteIterable S.into_iter_gives S.IntoIter.can_next S.IntoIter.remaining symbols }
-    requires probabilities_end { IsFiniteIterable P.into_iter_gives P.IntoIter.can_next P.IntoIter.remaining probabilities }
-    ensures { MakesEntries Symbol.eq (AreAccepted Symbol.eq Probability.BITS PRECISION) Probability.whole Probability.BITS
-        PRECISION infer_last_probability (WasReadOf S.into_iter_gives S.IntoIter.next_gives symbols)
+    requires symbols_end { IsFiniteIterable S.into_iter_gives S.IntoIter.can_next
+        S.IntoIter.remaining symbols }
+    requires probabilities_end { IsFiniteIterable P.into_iter_gives P.IntoIter.can_next
+        P.IntoIter.remaining probabilities }
+    ensures { MakesEntries Symbol.eq (AreAccepted Symbol.eq Probability.BITS PRECISION)
+        Probability.whole Probability.BITS PRECISION infer_last_probability
+        (WasReadOf S.into_iter_gives S.IntoIter.next_gives symbols)
         (WasReadOf P.into_iter_gives P.IntoIter.next_gives probabilities) result }
 {
     let entries = entries_read::<_, _, _, _, PRECISION>(
@@ -91,10 +98,13 @@ fn entries_in_order<
     infer_last_probability: bool,
 ) -> Result<Vec<(Probability, Symbol)>, ModelError>
     requires precision { IsPrecision Probability.BITS PRECISION }
-    requires symbols_end { IsFiniteIterable S.into_iter_gives S.IntoIter.can_next S.IntoIter.remaining symbols }
-    requires probabilities_end { IsFiniteIterable P.into_iter_gives P.IntoIter.can_next P.IntoIter.remaining probabilities }
-    ensures { MakesEntries Symbol.eq (AreInOrder Symbol.eq Symbol.cmp Probability.BITS PRECISION) Probability.whole Probability.BITS
-        PRECISION infer_last_probability (WasReadOf S.into_iter_gives S.IntoIter.next_gives symbols)
+    requires symbols_end { IsFiniteIterable S.into_iter_gives S.IntoIter.can_next
+        S.IntoIter.remaining symbols }
+    requires probabilities_end { IsFiniteIterable P.into_iter_gives P.IntoIter.can_next
+        P.IntoIter.remaining probabilities }
+    ensures { MakesEntries Symbol.eq (AreInOrder Symbol.eq Symbol.cmp Probability.BITS PRECISION)
+        Probability.whole Probability.BITS PRECISION infer_last_probability
+        (WasReadOf S.into_iter_gives S.IntoIter.next_gives symbols)
         (WasReadOf P.into_iter_gives P.IntoIter.next_gives probabilities) result }
 {
     let entries = entries_read::<_, _, _, _, PRECISION>(
@@ -115,8 +125,8 @@ impl<
     Probability: WholeNumber,
     const PRECISION: usize,
 > NonContiguousCategoricalDecoderModel<Symbol, Probability, Vec<(Probability, Symbol)>, PRECISION> {
-    /// As [`Self::from_symbols_and_nonzero_fixed_point_probabilities`], for a caller who knows that no two of the symbols
-    /// are equal. None are compared.
+    /// As [`Self::from_symbols_and_nonzero_fixed_point_probabilities`], for a caller who knows that
+    /// no two of the symbols are equal. None are compared.
     pub fn from_distinct_symbols_and_nonzero_fixed_point_probabilities<
         S: IntoIterator<Item = Symbol>,
         P: IntoIterator<Item = Probability>,
@@ -127,11 +137,15 @@ impl<
         infer_last_probability: bool,
     ) -> Result<Self, ModelError>
         requires precision { IsPrecision Probability.BITS PRECISION }
-        requires symbols_end { IsFiniteIterable S.into_iter_gives S.IntoIter.can_next S.IntoIter.remaining symbols }
-        requires probabilities_end { IsFiniteIterable P.into_iter_gives P.IntoIter.can_next P.IntoIter.remaining probabilities }
-        requires distinct { GivesDistinct S.into_iter_gives S.IntoIter.next_gives Symbol.eq symbols }
-        ensures { MakesDecoder (AreAccepted Symbol.eq Probability.BITS PRECISION) infer_last_probability
-            S.into_iter_gives S.IntoIter.next_gives symbols P.into_iter_gives P.IntoIter.next_gives probabilities result }
+        requires symbols_end { IsFiniteIterable S.into_iter_gives S.IntoIter.can_next
+            S.IntoIter.remaining symbols }
+        requires probabilities_end { IsFiniteIterable P.into_iter_gives P.IntoIter.can_next
+            P.IntoIter.remaining probabilities }
+        requires distinct { GivesDistinct S.into_iter_gives S.IntoIter.next_gives Symbol.eq
+            symbols }
+        ensures { MakesDecoder (AreAccepted Symbol.eq Probability.BITS PRECISION)
+            infer_last_probability S.into_iter_gives S.IntoIter.next_gives symbols P.into_iter_gives
+            P.IntoIter.next_gives probabilities result }
     {
         match entries_of_distinct::<Probability, Symbol, S, P, PRECISION>(
             alloc,
@@ -144,12 +158,12 @@ impl<
         }
     }
 
-    /// As [`Self::from_symbols_and_nonzero_fixed_point_probabilities`], for symbols that have a hash. Two equal symbols
-    /// are found only after both iterators were read to their ends. `OutOfMemory` comes also if memory for a set of
-    /// references to the symbols is refused.
+    /// As [`Self::from_symbols_and_nonzero_fixed_point_probabilities`], for symbols that have a
+    /// hash. Two equal symbols are found only after both iterators were read to their ends.
+    /// `OutOfMemory` comes also if memory for a set of references to the symbols is refused.
     ///
-    /// One hash a symbol in place of the comparisons. The set has as many places as there are symbols, and is dropped before
-    /// the call returns.
+    /// One hash a symbol in place of the comparisons. The set has as many places as there are
+    /// symbols, and is dropped before the call returns.
     pub fn from_hashable_symbols_and_nonzero_fixed_point_probabilities<
         S: IntoIterator<Item = Symbol>,
         P: IntoIterator<Item = Probability>,
@@ -162,10 +176,13 @@ impl<
     where
         Symbol: Hash,
         requires precision { IsPrecision Probability.BITS PRECISION }
-        requires symbols_end { IsFiniteIterable S.into_iter_gives S.IntoIter.can_next S.IntoIter.remaining symbols }
-        requires probabilities_end { IsFiniteIterable P.into_iter_gives P.IntoIter.can_next P.IntoIter.remaining probabilities }
-        ensures { MakesDecoder (AreAccepted Symbol.eq Probability.BITS PRECISION) infer_last_probability
-            S.into_iter_gives S.IntoIter.next_gives symbols P.into_iter_gives P.IntoIter.next_gives probabilities result }
+        requires symbols_end { IsFiniteIterable S.into_iter_gives S.IntoIter.can_next
+            S.IntoIter.remaining symbols }
+        requires probabilities_end { IsFiniteIterable P.into_iter_gives P.IntoIter.can_next
+            P.IntoIter.remaining probabilities }
+        ensures { MakesDecoder (AreAccepted Symbol.eq Probability.BITS PRECISION)
+            infer_last_probability S.into_iter_gives S.IntoIter.next_gives symbols P.into_iter_gives
+            P.IntoIter.next_gives probabilities result }
     {
         match entries_hashed::<Probability, Symbol, S, P, PRECISION>(
             alloc,
@@ -184,8 +201,9 @@ impl<
     Probability: WholeNumber,
     const PRECISION: usize,
 > NonContiguousCategoricalDecoderModel<Symbol, Probability, Vec<(Probability, Symbol)>, PRECISION> {
-    /// As [`Self::from_symbols_and_nonzero_fixed_point_probabilities`], for symbols in increasing order: a symbol that is
-    /// not less than the next one is refused. So after `InvalidTable` another constructor may accept the lists.
+    /// As [`Self::from_symbols_and_nonzero_fixed_point_probabilities`], for symbols in increasing
+    /// order: a symbol that is not less than the next one is refused. So after `InvalidTable`
+    /// another constructor may accept the lists.
     ///
     /// One comparison of each two neighbours.
     pub fn from_sorted_symbols_and_nonzero_fixed_point_probabilities<
@@ -198,10 +216,13 @@ impl<
         infer_last_probability: bool,
     ) -> Result<Self, ModelError>
         requires precision { IsPrecision Probability.BITS PRECISION }
-        requires symbols_end { IsFiniteIterable S.into_iter_gives S.IntoIter.can_next S.IntoIter.remaining symbols }
-        requires probabilities_end { IsFiniteIterable P.into_iter_gives P.IntoIter.can_next P.IntoIter.remaining probabilities }
-        ensures { MakesDecoder (AreInOrder Symbol.eq Symbol.cmp Probability.BITS PRECISION) infer_last_probability
-            S.into_iter_gives S.IntoIter.next_gives symbols P.into_iter_gives P.IntoIter.next_gives probabilities result }
+        requires symbols_end { IsFiniteIterable S.into_iter_gives S.IntoIter.can_next
+            S.IntoIter.remaining symbols }
+        requires probabilities_end { IsFiniteIterable P.into_iter_gives P.IntoIter.can_next
+            P.IntoIter.remaining probabilities }
+        ensures { MakesDecoder (AreInOrder Symbol.eq Symbol.cmp Probability.BITS PRECISION)
+            infer_last_probability S.into_iter_gives S.IntoIter.next_gives symbols P.into_iter_gives
+            P.IntoIter.next_gives probabilities result }
     {
         match entries_in_order::<Probability, Symbol, S, P, PRECISION>(
             alloc,

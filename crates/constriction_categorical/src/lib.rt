@@ -1,8 +1,8 @@
 //! Entropy models of given weights.
 //!
-//! Models of the symbols 0, 1, .. and of any symbols, which search for the row of a quantile; the same with a
-//! lookup table that says where to search; walks through rows, and decoders and lookup models made of any model that can
-//! be walked through. The crate above has encoders that hash.
+//! Models of the symbols 0, 1, .. and of any symbols, which search for the row of a quantile; the
+//! same with a lookup table that says where to search; walks through rows, and decoders and lookup
+//! models made of any model that can be walked through. The crate above has encoders that hash.
 #![tactic(auto)]
 
 mod contiguous;

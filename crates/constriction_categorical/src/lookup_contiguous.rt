@@ -20,8 +20,8 @@ use constriction_numbers::IndexWord;
 use constriction_stored_rows::copy_of;
 use std::alloc::{AllocError, Global};
 
-/// A contiguous model with a lookup table of `2^min(PRECISION, SLOT_BITS)` slots, for decoders. Beside it the model stores
-/// a cdf, one word a symbol and one more.
+/// A contiguous model with a lookup table of `2^min(PRECISION, SLOT_BITS)` slots, for decoders.
+/// Beside it the model stores a cdf, one word a symbol and one more.
 pub type SlottedContiguousLookupDecoderModel<
     Probability,
     Cdf,
@@ -43,15 +43,17 @@ pub type ContiguousLookupDecoderModel<Probability, Cdf, LookupTable, const PRECI
 pub type SmallContiguousLookupDecoderModel<Cdf = Vec<u16>, LookupTable = Vec<u16>> =
     ContiguousLookupDecoderModel<u16, Cdf, LookupTable, 12>;
 
-/// Over 12 bits of `u16`, with a slot for each quantile: a lookup table of 4,096 words, where a look-up searches nothing.
+/// Over 12 bits of `u16`, with a slot for each quantile: a lookup table of 4,096 words, where a
+/// look-up searches nothing.
 pub type SmallContiguousDirectLookupDecoderModel<Cdf = Vec<u16>, LookupTable = Vec<u16>> =
     SlottedContiguousLookupDecoderModel<u16, Cdf, LookupTable, 12, 12>;
 
 /// Over 24 bits of `u32`, for most uses, with 4,096 slots: a lookup table of 8,192 words, 32 KiB.
 ///
-/// A look-up takes a quarter to two fifths of the time that a search of all rows takes. With 4,096 rows the lookup table
-/// pays after some 2,000 look-ups: to decode fewer symbols with one model, take the searching model. If memory counts, take
-/// [`ContiguousLookupDecoderModel`], with 512 words.
+/// A look-up takes a quarter to two fifths of the time that a search of all rows takes. With 4,096
+/// rows the lookup table pays after some 2,000 look-ups: to decode fewer symbols with one model,
+/// take the searching model. If memory counts, take [`ContiguousLookupDecoderModel`], with 512
+/// words.
 pub type DefaultContiguousLookupDecoderModel<Cdf = Vec<u32>, LookupTable = Vec<u32>> =
     SlottedContiguousLookupDecoderModel<u32, Cdf, LookupTable, 24, 12>;
 
@@ -66,8 +68,9 @@ impl<
     PRECISION,
     SLOT_BITS,
 > {
-    /// As [`ContiguousCategoricalEntropyModel::from_nonzero_fixed_point_probabilities`], and with a lookup table.
-    /// `InvalidTable` comes before it is made, `OutOfMemory` also if memory for it is refused.
+    /// As [`ContiguousCategoricalEntropyModel::from_nonzero_fixed_point_probabilities`], and with a
+    /// lookup table. `InvalidTable` comes before it is made, `OutOfMemory` also if memory for it is
+    /// refused.
     ///
     /// One pass over the rows and one allocation for the lookup table are added.
     #[tactic(auto, using(crate::proofs::Remade::error_of_weights))]
@@ -77,9 +80,11 @@ impl<
         infer_last_probability: bool,
     ) -> Result<Self, ModelError>
         requires precision { IsLookupPrecision Probability.BITS PRECISION }
-        requires ends { IsFiniteIterable I.into_iter_gives I.IntoIter.can_next I.IntoIter.remaining probabilities }
-        ensures { IsDecidedByWeights (IsAccepted Probability.BITS PRECISION) (completed PRECISION infer_last_probability)
-            I.into_iter_gives I.IntoIter.next_gives probabilities Probability.whole (λ m ws. lookup_model_rows m ≡ contiguous_rows ws)
+        requires ends { IsFiniteIterable I.into_iter_gives I.IntoIter.can_next I.IntoIter.remaining
+            probabilities }
+        ensures { IsDecidedByWeights (IsAccepted Probability.BITS PRECISION)
+            (completed PRECISION infer_last_probability) I.into_iter_gives I.IntoIter.next_gives
+            probabilities Probability.whole (λ m ws. lookup_model_rows m ≡ contiguous_rows ws)
             result }
     {
         match ContiguousCategoricalEntropyModel::<
@@ -124,7 +129,8 @@ impl<
     Cdf: SafeBuf<Probability>,
     const PRECISION: usize,
 > ContiguousCategoricalEntropyModel<Probability, Cdf, PRECISION> {
-    /// The lookup model of the same rows. Two allocations, one copy of the rows and one pass over them.
+    /// The lookup model of the same rows. Two allocations, one copy of the rows and one pass over
+    /// them.
     pub fn to_lookup_decoder_model(
         &self,
         alloc: Global,
@@ -133,7 +139,8 @@ impl<
         ModelError,
     >
         requires { PRECISION ≤ 63 }
-        ensures { IsMadeIfMemorySuffices (λ m. lookup_model_rows m ≡ contiguous_model_rows self.now) result }
+        ensures { IsMadeIfMemorySuffices (λ m. lookup_model_rows m ≡ contiguous_model_rows self.now)
+            result }
     {
         self.to_slotted_lookup_decoder_model::<8>(alloc)
     }
@@ -154,7 +161,8 @@ impl<
         ModelError,
     >
         requires { PRECISION ≤ 63 }
-        ensures { IsMadeIfMemorySuffices (λ m. lookup_model_rows m ≡ contiguous_model_rows self.now) result }
+        ensures { IsMadeIfMemorySuffices (λ m. lookup_model_rows m ≡ contiguous_model_rows self.now)
+            result }
     {
         match self.clone_in(alloc) {
             Ok(copy) => lookup_over(alloc, copy),
@@ -227,8 +235,8 @@ impl<
         true
     }
 
-    /// All rows in order, each once: symbol, left cumulative and weight. The walk takes no memory, and
-    /// every item is a row.
+    /// All rows in order, each once: symbol, left cumulative and weight. The walk takes no memory,
+    /// and every item is a row.
     #[inline]
     fn symbol_table(self) -> ContiguousSymbolTable<'m, Probability, PRECISION> {
         (&self.model).symbol_table()

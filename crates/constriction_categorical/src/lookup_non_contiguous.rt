@@ -23,8 +23,9 @@ use constriction_numbers::IndexWord;
 use constriction_stored_rows::copy_of;
 use std::alloc::{AllocError, Global};
 
-/// A model of any distinct symbols with a lookup table of `2^min(PRECISION, SLOT_BITS)` slots, for decoders. After its
-/// slots the lookup table has one word a symbol and one more. Beside it the model stores an entry a symbol.
+/// A model of any distinct symbols with a lookup table of `2^min(PRECISION, SLOT_BITS)` slots, for
+/// decoders. After its slots the lookup table has one word a symbol and one more. Beside it the
+/// model stores an entry a symbol.
 pub type SlottedNonContiguousLookupDecoderModel<
     Symbol,
     Probability,
@@ -55,23 +56,25 @@ pub type SmallNonContiguousLookupDecoderModel<
     LookupTable = Vec<u16>,
 > = NonContiguousLookupDecoderModel<Symbol, u16, Cdf, LookupTable, 12>;
 
-/// Over 12 bits of `u16`, with a slot for each quantile: 4,096 words, and a look-up searches nothing.
+/// Over 12 bits of `u16`, with a slot for each quantile: 4,096 words, and a look-up searches
+/// nothing.
 pub type SmallNonContiguousDirectLookupDecoderModel<
     Symbol,
     Cdf = Vec<(u16, Symbol)>,
     LookupTable = Vec<u16>,
 > = SlottedNonContiguousLookupDecoderModel<Symbol, u16, Cdf, LookupTable, 12, 12>;
 
-/// Over 24 bits of `u32`, for most uses, with 4,096 slots, which take 8,192 words, 32 KiB. It pays from a few thousand
-/// symbols to decode on.
+/// Over 24 bits of `u32`, for most uses, with 4,096 slots, which take 8,192 words, 32 KiB. It pays
+/// from a few thousand symbols to decode on.
 pub type DefaultNonContiguousLookupDecoderModel<
     Symbol,
     Cdf = Vec<(u32, Symbol)>,
     LookupTable = Vec<u32>,
 > = SlottedNonContiguousLookupDecoderModel<Symbol, u32, Cdf, LookupTable, 24, 12>;
 
-// The model that owns its rows and its lookup table. Its short name keeps the names of proof modules below 239 characters: modules with
-// longer names are not kept, and each crate above checks them anew.
+// The model that owns its rows and its lookup table. Its short name keeps the names of proof
+// modules below 239 characters: modules with longer names are not kept, and each crate above checks
+// them anew.
 pub(crate) type OwnLookupDecoderModel<
     Symbol,
     Probability,
@@ -92,7 +95,9 @@ impl<
     const PRECISION: usize,
     const SLOT_BITS: usize,
 > OwnLookupDecoderModel<Symbol, Probability, PRECISION, SLOT_BITS> {
-    /// As the constructor of this name of [`NonContiguousCategoricalDecoderModel`], and with a lookup table. `InvalidTable` comes before it is made, `OutOfMemory` also if memory for it is refused.
+    /// As the constructor of this name of [`NonContiguousCategoricalDecoderModel`], and with a
+    /// lookup table. `InvalidTable` comes before it is made, `OutOfMemory` also if memory for it is
+    /// refused.
     ///
     /// Two passes over the rows and one allocation for the lookup table are added.
     #[tactic(auto, using(crate::proofs::Remade::error_of_both))]
@@ -106,11 +111,14 @@ impl<
         infer_last_probability: bool,
     ) -> Result<Self, ModelError>
         requires precision { IsLookupPrecision Probability.BITS PRECISION }
-        requires symbols_end { IsFiniteIterable S.into_iter_gives S.IntoIter.can_next S.IntoIter.remaining symbols }
-        requires probabilities_end { IsFiniteIterable P.into_iter_gives P.IntoIter.can_next P.IntoIter.remaining probabilities }
-        ensures { IsDecidedByBoth (AreAccepted Symbol.eq Probability.BITS PRECISION) (completed PRECISION infer_last_probability)
-            S.into_iter_gives S.IntoIter.next_gives symbols P.into_iter_gives P.IntoIter.next_gives probabilities
-            Probability.whole (λ m ss ws. lookup_model_rows m ≡ rows_of ss ws) result }
+        requires symbols_end { IsFiniteIterable S.into_iter_gives S.IntoIter.can_next
+            S.IntoIter.remaining symbols }
+        requires probabilities_end { IsFiniteIterable P.into_iter_gives P.IntoIter.can_next
+            P.IntoIter.remaining probabilities }
+        ensures { IsDecidedByBoth (AreAccepted Symbol.eq Probability.BITS PRECISION)
+            (completed PRECISION infer_last_probability) S.into_iter_gives S.IntoIter.next_gives
+            symbols P.into_iter_gives P.IntoIter.next_gives probabilities Probability.whole
+            (λ m ss ws. lookup_model_rows m ≡ rows_of ss ws) result }
     {
         match NonContiguousCategoricalDecoderModel::<
             Symbol,
@@ -135,13 +143,16 @@ impl<
     const PRECISION: usize,
     const SLOT_BITS: usize,
 > OwnLookupDecoderModel<Symbol, Probability, PRECISION, SLOT_BITS> {
-    /// A copy of the model, with clones of the symbols. Its rows and its lookup table come from the allocators of this
-    /// model's. A clone has to be equal to its symbol, so that no two clones are equal.
+    /// A copy of the model, with clones of the symbols. Its rows and its lookup table come from the
+    /// allocators of this model's. A clone has to be equal to its symbol, so that no two clones are
+    /// equal.
     ///
-    /// Two allocations, and a clone of each symbol. The call fails if memory for one of these is refused.
+    /// Two allocations, and a clone of each symbol. The call fails if memory for one of these is
+    /// refused.
     pub fn clone(&self) -> Result<Self, AllocError>
         requires { ClonesAreEqual Symbol.eq Symbol.is_clone }
-        ensures { IfOk result (λ m. StandForRows Symbol.is_clone (lookup_model_rows m) (lookup_model_rows self.now)) }
+        ensures { IfOk result (λ m.
+            StandForRows Symbol.is_clone (lookup_model_rows m) (lookup_model_rows self.now)) }
     {
         let lookup_table = copy_of(*self.lookup_table.allocator(), self.lookup_table.as_slice())?;
         match self.model.clone() {
@@ -160,15 +171,16 @@ impl<
     Cdf: SafeBuf<(Probability, Symbol)>,
     const PRECISION: usize,
 > NonContiguousCategoricalDecoderModel<Symbol, Probability, Cdf, PRECISION> {
-    /// The lookup model of the same rows, with clones of the symbols. Two allocations, a clone of each symbol, and two
-    /// passes over the rows.
+    /// The lookup model of the same rows, with clones of the symbols. Two allocations, a clone of
+    /// each symbol, and two passes over the rows.
     pub fn to_lookup_decoder_model(
         &self,
         alloc: Global,
     ) -> Result<LookupMadeOf<Self, PRECISION, 8>, ModelError>
         requires narrow { PRECISION ≤ 63 }
         requires clones { ClonesAreEqual Symbol.eq Symbol.is_clone }
-        ensures { IsMadeIfMemorySuffices (λ m. StandForRows Symbol.is_clone (lookup_model_rows m) (decoder_model_rows self.now)) result }
+        ensures { IsMadeIfMemorySuffices (λ m. StandForRows Symbol.is_clone (lookup_model_rows m)
+            (decoder_model_rows self.now)) result }
     {
         self.to_slotted_lookup_decoder_model::<8>(alloc)
     }
@@ -181,7 +193,8 @@ impl<
     ) -> Result<LookupMadeOf<Self, PRECISION, SLOT_BITS>, ModelError>
         requires narrow { PRECISION ≤ 63 }
         requires clones { ClonesAreEqual Symbol.eq Symbol.is_clone }
-        ensures { IsMadeIfMemorySuffices (λ m. StandForRows Symbol.is_clone (lookup_model_rows m) (decoder_model_rows self.now)) result }
+        ensures { IsMadeIfMemorySuffices (λ m. StandForRows Symbol.is_clone (lookup_model_rows m)
+            (decoder_model_rows self.now)) result }
     {
         match self.clone_in(alloc) {
             Ok(copy) => lookup_over(alloc, copy),
@@ -195,14 +208,15 @@ impl<
     Probability: IndexWord,
     const PRECISION: usize,
 > NonContiguousCategoricalDecoderModel<Symbol, Probability, Vec<(Probability, Symbol)>, PRECISION> {
-    /// The lookup model of the same rows, with the entries of this model. One allocation and two passes over the rows. If
-    /// memory for the lookup table is refused, this model is dropped.
+    /// The lookup model of the same rows, with the entries of this model. One allocation and two
+    /// passes over the rows. If memory for the lookup table is refused, this model is dropped.
     pub fn into_lookup_decoder_model(
         self,
         alloc: Global,
     ) -> Result<LookupMadeOf<Self, PRECISION, 8>, ModelError>
         requires { PRECISION ≤ 63 }
-        ensures { IsMadeIfMemorySuffices (λ m. lookup_model_rows m ≡ decoder_model_rows self) result }
+        ensures { IsMadeIfMemorySuffices (λ m. lookup_model_rows m ≡ decoder_model_rows self)
+            result }
     {
         lookup_over(alloc, self)
     }
@@ -282,18 +296,20 @@ impl<
 
     ghost may_refuse = { λ s. ¬ (Symbol.is_infallible s) };
 
-    ghost rows_left = { λ t. rows_between t.from t.to (rows_paired Probability.whole PRECISION t.entries.now) };
+    ghost rows_left = { λ t.
+        rows_between t.from t.to (rows_paired Probability.whole PRECISION t.entries.now) };
 
     ghost is_equality = { λ eq. (eq ≡ Symbol.eq) × ClonesAreEqual Symbol.eq Symbol.is_clone };
 
-    /// No two symbols are equal. A caller who relies on this shows that a clone is equal to its symbol.
+    /// No two symbols are equal. A caller who relies on this shows that a clone is equal to its
+    /// symbol.
     #[inline]
     fn symbols_differ(&self) -> bool {
         true
     }
 
-    /// All rows in order, each once: a clone of the symbol, the left cumulative and the weight. If memory
-    /// for a clone is refused, the row's item is the refusal.
+    /// All rows in order, each once: a clone of the symbol, the left cumulative and the weight. If
+    /// memory for a clone is refused, the row's item is the refusal.
     #[inline]
     fn symbol_table(self) -> NonContiguousSymbolTable<'m, Symbol, Probability, PRECISION> {
         (&self.model).symbol_table()

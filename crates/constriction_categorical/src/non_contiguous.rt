@@ -27,8 +27,8 @@ use std::marker::PhantomData;
 
 /// A model of any distinct symbols, for decoders: it finds the row of a quantile.
 ///
-/// It stores one entry a symbol, the left cumulative and the symbol, in a buffer of the caller's choice. Two words beside
-/// the buffer serve to compute where a row ends.
+/// It stores one entry a symbol, the left cumulative and the symbol, in a buffer of the caller's
+/// choice. Two words beside the buffer serve to compute where a row ends.
 #[derive(Debug, Drop)]
 pub struct NonContiguousCategoricalDecoderModel<
     Symbol: Eq,
@@ -40,10 +40,12 @@ pub struct NonContiguousCategoricalDecoderModel<
     pub(crate) end_words: [Probability; 2],
     pub(crate) marker: PhantomData<(Probability, Symbol)>,
     ghost precise: { IsPrecision Probability.BITS PRECISION },
-    ghost stored: { IsStored Probability.BITS PRECISION (map (λ x. Probability.whole x.0) (Cdf.words_of cdf)) },
-    ghost aided: { AreEndWords Probability.BITS PRECISION (map (λ x. Probability.whole x.0) (Cdf.words_of cdf))
-        (map Probability.whole end_words) },
-    ghost distinct: { IsDistinct Symbol.eq (map (λ x. x.1) (Cdf.words_of cdf)) } by { Prim.hlevel props },
+    ghost stored: { IsStored Probability.BITS PRECISION
+        (map (λ x. Probability.whole x.0) (Cdf.words_of cdf)) },
+    ghost aided: { AreEndWords Probability.BITS PRECISION
+        (map (λ x. Probability.whole x.0) (Cdf.words_of cdf)) (map Probability.whole end_words) },
+    ghost distinct: { IsDistinct Symbol.eq
+        (map (λ x. x.1) (Cdf.words_of cdf)) } by { Prim.hlevel props },
 }
 
 /// Over 24 bits of `u32`, for most uses.
@@ -87,10 +89,13 @@ fn entries_compared<
     infer_last_probability: bool,
 ) -> Result<Vec<(Probability, Symbol)>, ModelError>
     requires precision { IsPrecision Probability.BITS PRECISION }
-    requires symbols_end { IsFiniteIterable S.into_iter_gives S.IntoIter.can_next S.IntoIter.remaining symbols }
-    requires probabilities_end { IsFiniteIterable P.into_iter_gives P.IntoIter.can_next P.IntoIter.remaining probabilities }
-    ensures { MakesEntries Symbol.eq (AreAccepted Symbol.eq Probability.BITS PRECISION) Probability.whole Probability.BITS
-        PRECISION infer_last_probability (WasReadOf S.into_iter_gives S.IntoIter.next_gives symbols)
+    requires symbols_end { IsFiniteIterable S.into_iter_gives S.IntoIter.can_next
+        S.IntoIter.remaining symbols }
+    requires probabilities_end { IsFiniteIterable P.into_iter_gives P.IntoIter.can_next
+        P.IntoIter.remaining probabilities }
+    ensures { MakesEntries Symbol.eq (AreAccepted Symbol.eq Probability.BITS PRECISION)
+        Probability.whole Probability.BITS PRECISION infer_last_probability
+        (WasReadOf S.into_iter_gives S.IntoIter.next_gives symbols)
         (WasReadOf P.into_iter_gives P.IntoIter.next_gives probabilities) result }
 {
     let symbols = symbols.into_iter();
@@ -104,8 +109,8 @@ fn entries_compared<
     )
 }
 
-/// The model over these entries: a model's left cumulatives, each with a symbol, and all symbols distinct. It takes no
-/// memory. Crates above call it when they have collected entries.
+/// The model over these entries: a model's left cumulatives, each with a symbol, and all symbols
+/// distinct. It takes no memory. Crates above call it when they have collected entries.
 pub fn decoder_over<Symbol: Eq, Probability: WholeNumber, const PRECISION: usize>(
     entries: Vec<(Probability, Symbol)>,
 ) -> NonContiguousCategoricalDecoderModel<
@@ -115,7 +120,8 @@ pub fn decoder_over<Symbol: Eq, Probability: WholeNumber, const PRECISION: usize
     PRECISION,
 >
     requires precision { IsPrecision Probability.BITS PRECISION }
-    requires stored { IsStored Probability.BITS PRECISION (map (λ x. Probability.whole x.0) entries.items) }
+    requires stored { IsStored Probability.BITS PRECISION
+        (map (λ x. Probability.whole x.0) entries.items) }
     requires distinct { IsDistinct Symbol.eq (map (λ x. x.1) entries.items) }
     ensures { ⟦<NonContiguousCategoricalDecoderModel<Symbol, Probability, Vec<(Probability, Symbol)>, PRECISION> as EntropyModel<PRECISION>>⟧.rows result
         ≡ rows_paired Probability.whole PRECISION entries.items }
@@ -135,17 +141,20 @@ impl<
 > NonContiguousCategoricalDecoderModel<Symbol, Probability, Vec<(Probability, Symbol)>, PRECISION> {
     ghost use Rattle.constriction_categorical.specs.ModelRows.{MakesDecoder, decoder_model_rows};
 
-    /// The model of these symbols and weights, of which the last may be inferred, as in a contiguous model.
+    /// The model of these symbols and weights, of which the last may be inferred, as in a
+    /// contiguous model.
     ///
-    /// They are accepted if and only if a contiguous model accepts the weights, there is exactly one symbol for each, and
-    /// no two symbols are equal. If they are not, `InvalidTable` comes after both iterators were read to their ends, or as
-    /// soon as no lists with this beginning are accepted. `OutOfMemory` comes if memory for the entries is refused.
+    /// They are accepted if and only if a contiguous model accepts the weights, there is exactly
+    /// one symbol for each, and no two symbols are equal. If they are not, `InvalidTable` comes
+    /// after both iterators were read to their ends, or as soon as no lists with this beginning are
+    /// accepted. `OutOfMemory` comes if memory for the entries is refused.
     ///
-    /// One pass over both, one entry a symbol, and one allocation if the symbols' iterator announces their number. No
-    /// symbol is cloned. Each is compared with all before it: `n * (n - 1) / 2` comparisons for `n` symbols. If that is too
-    /// much, take [`Self::from_hashable_symbols_and_nonzero_fixed_point_probabilities`],
-    /// [`Self::from_sorted_symbols_and_nonzero_fixed_point_probabilities`], or, if symbols are known to differ,
-    /// [`Self::from_distinct_symbols_and_nonzero_fixed_point_probabilities`].
+    /// One pass over both, one entry a symbol, and one allocation if the symbols' iterator
+    /// announces their number. No symbol is cloned. Each is compared with all before it: `n * (n -
+    /// 1) / 2` comparisons for `n` symbols. If that is too much, take
+    /// [`Self::from_hashable_symbols_and_nonzero_fixed_point_probabilities`],
+    /// [`Self::from_sorted_symbols_and_nonzero_fixed_point_probabilities`], or, if symbols are
+    /// known to differ, [`Self::from_distinct_symbols_and_nonzero_fixed_point_probabilities`].
     pub fn from_symbols_and_nonzero_fixed_point_probabilities<
         S: IntoIterator<Item = Symbol>,
         P: IntoIterator<Item = Probability>,
@@ -158,10 +167,13 @@ impl<
     where
         Symbol: Drop,
         requires precision { IsPrecision Probability.BITS PRECISION }
-        requires symbols_end { IsFiniteIterable S.into_iter_gives S.IntoIter.can_next S.IntoIter.remaining symbols }
-        requires probabilities_end { IsFiniteIterable P.into_iter_gives P.IntoIter.can_next P.IntoIter.remaining probabilities }
-        ensures { MakesDecoder (AreAccepted Symbol.eq Probability.BITS PRECISION) infer_last_probability
-            S.into_iter_gives S.IntoIter.next_gives symbols P.into_iter_gives P.IntoIter.next_gives probabilities result }
+        requires symbols_end { IsFiniteIterable S.into_iter_gives S.IntoIter.can_next
+            S.IntoIter.remaining symbols }
+        requires probabilities_end { IsFiniteIterable P.into_iter_gives P.IntoIter.can_next
+            P.IntoIter.remaining probabilities }
+        ensures { MakesDecoder (AreAccepted Symbol.eq Probability.BITS PRECISION)
+            infer_last_probability S.into_iter_gives S.IntoIter.next_gives symbols P.into_iter_gives
+            P.IntoIter.next_gives probabilities result }
     {
         match entries_compared::<Probability, Symbol, S, P, PRECISION>(
             alloc,
@@ -174,14 +186,17 @@ impl<
         }
     }
 
-    /// A copy of the model, with clones of the symbols. Its entries come from the allocator of this model's.
+    /// A copy of the model, with clones of the symbols. Its entries come from the allocator of this
+    /// model's.
     ///
-    /// One allocation, and a clone of each symbol. The call fails if memory for one of these is refused.
+    /// One allocation, and a clone of each symbol. The call fails if memory for one of these is
+    /// refused.
     pub fn clone(&self) -> Result<Self, AllocError>
     where
         Symbol: Clone,
         requires { ClonesAreEqual Symbol.eq Symbol.is_clone }
-        ensures { IfOk result (λ m. StandForRows Symbol.is_clone (decoder_model_rows m) (decoder_model_rows self.now)) }
+        ensures { IfOk result (λ m.
+            StandForRows Symbol.is_clone (decoder_model_rows m) (decoder_model_rows self.now)) }
     {
         self.clone_in(*self.cdf.allocator())
     }
@@ -230,7 +245,8 @@ impl<
         }
     }
 
-    /// As [`quantile_probe`](crate::ContiguousCategoricalEntropyModel::quantile_probe) of a contiguous model.
+    /// As [`quantile_probe`](crate::ContiguousCategoricalEntropyModel::quantile_probe) of a
+    /// contiguous model.
     #[inline]
     pub fn quantile_probe<'m>(
         &'m self,
@@ -259,10 +275,11 @@ impl<
     #[inline]
     fn cloned_entries(&self, alloc: Global) -> Result<Vec<(Probability, Symbol)>, AllocError>
         requires { ClonesAreEqual Symbol.eq Symbol.is_clone }
-        ensures stored { IfOk result (λ v. IsStored Probability.BITS PRECISION (map (λ x. Probability.whole x.0) v.items)) }
+        ensures stored { IfOk result (λ v.
+            IsStored Probability.BITS PRECISION (map (λ x. Probability.whole x.0) v.items)) }
         ensures distinct { IfOk result (λ v. IsDistinct Symbol.eq (map (λ x. x.1) v.items)) }
-        ensures rows { IfOk result (λ v. StandForRows Symbol.is_clone (rows_paired Probability.whole PRECISION v.items)
-            (decoder_model_rows self.now)) }
+        ensures rows { IfOk result (λ v. StandForRows Symbol.is_clone
+            (rows_paired Probability.whole PRECISION v.items) (decoder_model_rows self.now)) }
     {
         entries_cloned(alloc, self.cdf_entries())
     }
@@ -282,7 +299,8 @@ impl<
         AllocError,
     >
         requires { ClonesAreEqual Symbol.eq Symbol.is_clone }
-        ensures { IfOk result (λ m. StandForRows Symbol.is_clone (decoder_model_rows m) (decoder_model_rows self.now)) }
+        ensures { IfOk result (λ m.
+            StandForRows Symbol.is_clone (decoder_model_rows m) (decoder_model_rows self.now)) }
     {
         match self.cloned_entries(alloc) {
             Ok(entries) => Ok(decoder_over(entries)),
@@ -331,18 +349,20 @@ impl<
 
     ghost may_refuse = { λ s. ¬ (Symbol.is_infallible s) };
 
-    ghost rows_left = { λ t. rows_between t.from t.to (rows_paired Probability.whole PRECISION t.entries.now) };
+    ghost rows_left = { λ t.
+        rows_between t.from t.to (rows_paired Probability.whole PRECISION t.entries.now) };
 
     ghost is_equality = { λ eq. (eq ≡ Symbol.eq) × ClonesAreEqual Symbol.eq Symbol.is_clone };
 
-    /// No two symbols are equal. A caller who relies on this shows that a clone is equal to its symbol.
+    /// No two symbols are equal. A caller who relies on this shows that a clone is equal to its
+    /// symbol.
     #[inline]
     fn symbols_differ(&self) -> bool {
         true
     }
 
-    /// All rows in order, each once: a clone of the symbol, the left cumulative and the weight. If memory
-    /// for a clone is refused, the row's item is the refusal.
+    /// All rows in order, each once: a clone of the symbol, the left cumulative and the weight. If
+    /// memory for a clone is refused, the row's item is the refusal.
     #[inline]
     fn symbol_table(self) -> NonContiguousSymbolTable<'m, Symbol, Probability, PRECISION> {
         let entries = self.cdf.words();

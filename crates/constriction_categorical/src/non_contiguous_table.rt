@@ -13,16 +13,19 @@ use constriction_stored_rows::{end_in_walk, paired_row_at, paired_row_ending_at}
 use std::alloc::AllocError;
 use std::iter::FusedIterator;
 
-/// The remaining rows of a decoder over any symbols, from either end, each once and with a clone of its symbol.
+/// The remaining rows of a decoder over any symbols, from either end, each once and with a clone of
+/// its symbol.
 ///
-/// If memory for a clone is refused, the row's item is the refusal, and the walk goes on with the next row.
+/// If memory for a clone is refused, the row's item is the refusal, and the walk goes on with the
+/// next row.
 #[derive(Debug, Drop)]
 pub struct NonContiguousSymbolTable<'m, Symbol, Probability: WholeNumber, const PRECISION: usize> {
     pub(crate) entries: &'m [(Probability, Symbol)],
     pub(crate) from: usize,
     pub(crate) to: usize,
     ghost precise: { IsPrecision Probability.BITS PRECISION },
-    ghost stored: { IsStored Probability.BITS PRECISION (map (λ x. Probability.whole x.0) entries.now) },
+    ghost stored: { IsStored Probability.BITS PRECISION
+        (map (λ x. Probability.whole x.0) entries.now) },
     ghost in_order: { from ≤ to },
     ghost in_bounds: { to ≤ length entries.now },
 }
@@ -31,10 +34,12 @@ impl<'m, Symbol: Clone, Probability: WholeNumber, const PRECISION: usize> Iterat
     for NonContiguousSymbolTable<'m, Symbol, Probability, PRECISION> {
     type Item = Result<(Symbol, Probability, Weight<Probability>), AllocError>;
 
-    ghost next_gives = { YieldsRow Symbol.is_clone (λ s. ¬ (Symbol.is_infallible s)) Probability.whole Probability.base
-        (λ t. rows_between t.from t.to (rows_paired Probability.whole PRECISION t.entries.now)) };
+    ghost next_gives = { YieldsRow Symbol.is_clone (λ s. ¬ (Symbol.is_infallible s))
+        Probability.whole Probability.base (λ t.
+        rows_between t.from t.to (rows_paired Probability.whole PRECISION t.entries.now)) };
 
-    ghost remaining = { λ t. at_most (length (rows_between t.from t.to (rows_paired Probability.whole PRECISION t.entries.now))) };
+    ghost remaining = { λ t. at_most (length
+        (rows_between t.from t.to (rows_paired Probability.whole PRECISION t.entries.now))) };
 
     #[inline]
     fn next(&mut self) -> Option<Result<(Symbol, Probability, Weight<Probability>), AllocError>> {
@@ -66,8 +71,9 @@ impl<'m, Symbol: Clone, Probability: WholeNumber, const PRECISION: usize> Iterat
 
 impl<'m, Symbol: Clone, Probability: WholeNumber, const PRECISION: usize> DoubleEndedIterator
     for NonContiguousSymbolTable<'m, Symbol, Probability, PRECISION> {
-    ghost next_back_gives = { YieldsLastRow Symbol.is_clone (λ s. ¬ (Symbol.is_infallible s)) Probability.whole Probability.base
-        (λ t. rows_between t.from t.to (rows_paired Probability.whole PRECISION t.entries.now)) };
+    ghost next_back_gives = { YieldsLastRow Symbol.is_clone (λ s. ¬ (Symbol.is_infallible s))
+        Probability.whole Probability.base (λ t.
+        rows_between t.from t.to (rows_paired Probability.whole PRECISION t.entries.now)) };
 
     #[inline]
     fn next_back(

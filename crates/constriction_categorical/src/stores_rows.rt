@@ -19,7 +19,8 @@ use constriction_stored_rows::{
 };
 use std::alloc::AllocError;
 
-/// A model that stores one entry a row, in order, and lends the entries. A caller's own model may be one.
+/// A model that stores one entry a row, in order, and lends the entries. A caller's own model may
+/// be one.
 pub trait StoresRows<const PRECISION: usize>: EntropyModel<PRECISION> {
     /// The type of a stored entry.
     type Entry;
@@ -31,8 +32,9 @@ pub trait StoresRows<const PRECISION: usize>: EntropyModel<PRECISION> {
     fn entries(&self) -> &[Self::Entry]
         ensures { map Self.Kind.cumulative result.now ≡ map (λ r. r.left) (Self.rows self.now) };
 
-    /// Whether a lookup table beside the model has the left cumulatives and the total after its slots, which
-    /// [`AnswersRows::row_with_ends`] then reads. A model that has the end of each row itself wants none.
+    /// Whether a lookup table beside the model has the left cumulatives and the total after its
+    /// slots, which [`AnswersRows::row_with_ends`] then reads. A model that has the end of each row
+    /// itself wants none.
     #[inline]
     fn wants_ends(&self) -> bool {
         false
@@ -51,11 +53,13 @@ pub trait AnswersRows<const PRECISION: usize>: StoresRows<PRECISION> + DecoderMo
     ) -> Result<(Self::Symbol, Self::Probability, Weight<Self::Probability>), AllocError>
         requires { index < length (Self.rows self.now) }
         ensures row { (r : Row Self.Symbol) × (slice_get (Self.rows self.now) index ≡ Some r)
-            × StandsFor Self.stands_for Self.may_refuse Self.Probability.whole Self.Probability.base result r }
+            × StandsFor Self.stands_for Self.may_refuse Self.Probability.whole Self.Probability.base
+            result r }
         ensures within { IfOk result (λ x. LiesWithin PRECISION
             (row_of Self.Probability.whole Self.Probability.base x)) };
 
-    /// The same with the words after the slots of a lookup table at hand: none, or the left cumulatives and the total.
+    /// The same with the words after the slots of a lookup table at hand: none, or the left
+    /// cumulatives and the total.
     #[inline]
     fn row_with_ends(
         &self,
@@ -63,10 +67,11 @@ pub trait AnswersRows<const PRECISION: usize>: StoresRows<PRECISION> + DecoderMo
         index: usize,
     ) -> Result<(Self::Symbol, Self::Probability, Weight<Self::Probability>), AllocError>
         requires in_bounds { index < length (Self.rows self.now) }
-        requires cdf { MayFollow Self.Probability.BITS PRECISION (map (λ r. r.left) (Self.rows self.now))
-            (map Self.Probability.whole cdf.now) }
+        requires cdf { MayFollow Self.Probability.BITS PRECISION
+            (map (λ r. r.left) (Self.rows self.now)) (map Self.Probability.whole cdf.now) }
         ensures row { (r : Row Self.Symbol) × (slice_get (Self.rows self.now) index ≡ Some r)
-            × StandsFor Self.stands_for Self.may_refuse Self.Probability.whole Self.Probability.base result r }
+            × StandsFor Self.stands_for Self.may_refuse Self.Probability.whole Self.Probability.base
+            result r }
         ensures within { IfOk result (λ x. LiesWithin PRECISION
             (row_of Self.Probability.whole Self.Probability.base x)) }
     {
@@ -154,15 +159,16 @@ impl<
     }
 }
 
-/// The searching models of the symbols 0, 1, .. Only the bound of `into_contiguous_categorical` uses this trait, and callers
-/// do not name it.
+/// The searching models of the symbols 0, 1, .. Only the bound of `into_contiguous_categorical`
+/// uses this trait, and callers do not name it.
 pub trait OfNumbers<const PRECISION: usize>: EntropyModel<PRECISION> {}
 
 impl<Probability: WholeNumber, Cdf: SafeBuf<Probability>, const PRECISION: usize> OfNumbers<
     PRECISION,
 > for ContiguousCategoricalEntropyModel<Probability, Cdf, PRECISION> {}
 
-/// The searching models of any symbols. Only the bound of `into_non_contiguous_categorical` uses this trait.
+/// The searching models of any symbols. Only the bound of `into_non_contiguous_categorical` uses
+/// this trait.
 pub trait OfAnySymbols<const PRECISION: usize>: EntropyModel<PRECISION> {}
 
 impl<

@@ -15,7 +15,8 @@ use std::iter::FusedIterator;
 
 /// The remaining rows of a contiguous model, from either end, each once.
 ///
-/// Every item is `Ok`, since the walk takes no memory. A step reads two neighbours of the model's cdf.
+/// Every item is `Ok`, since the walk takes no memory. A step reads two neighbours of the model's
+/// cdf.
 #[derive(Debug, Drop)]
 pub struct ContiguousSymbolTable<'m, Probability: WholeNumber, const PRECISION: usize> {
     pub(crate) cdf: &'m [Probability],
@@ -34,7 +35,8 @@ impl<'m, Probability: WholeNumber, const PRECISION: usize> Iterator
     ghost next_gives = { YieldsRow (λ s t. t ≡ s) (λ _. ⊥) Probability.whole Probability.base
         (λ t. rows_stored PRECISION (map Probability.whole t.cdf.now) t.from t.to) };
 
-    ghost remaining = { λ t. at_most (length (rows_stored PRECISION (map Probability.whole t.cdf.now) t.from t.to)) };
+    ghost remaining = { λ t.
+        at_most (length (rows_stored PRECISION (map Probability.whole t.cdf.now) t.from t.to)) };
 
     #[inline]
     fn next(&mut self) -> Option<Result<(usize, Probability, Weight<Probability>), AllocError>> {
@@ -58,8 +60,9 @@ impl<'m, Probability: WholeNumber, const PRECISION: usize> Iterator
 
 impl<'m, Probability: WholeNumber, const PRECISION: usize> DoubleEndedIterator
     for ContiguousSymbolTable<'m, Probability, PRECISION> {
-    ghost next_back_gives = { YieldsLastRow (λ s t. t ≡ s) (λ _. ⊥) Probability.whole Probability.base
-        (λ t. rows_stored PRECISION (map Probability.whole t.cdf.now) t.from t.to) };
+    ghost next_back_gives = { YieldsLastRow (λ s t. t ≡ s) (λ _. ⊥) Probability.whole
+        Probability.base (λ t.
+        rows_stored PRECISION (map Probability.whole t.cdf.now) t.from t.to) };
 
     #[inline]
     fn next_back(

@@ -13,7 +13,8 @@ impl<Probability: WholeNumber, const PRECISION: usize> IterableEntropyModel<PREC
     for UniformModel<Probability, PRECISION> {
     type SymbolTable = UniformSymbolTable<Probability, PRECISION>;
 
-    ghost rows_left = { λ t. rows_between t.from t.to (uniform_rows PRECISION (Probability.whole t.model.last_symbol + 1)) };
+    ghost rows_left = { λ t. rows_between t.from t.to
+        (uniform_rows PRECISION (Probability.whole t.model.last_symbol + 1)) };
 
     ghost is_equality = { λ eq. eq ≡ nat_eq };
 
@@ -23,8 +24,8 @@ impl<Probability: WholeNumber, const PRECISION: usize> IterableEntropyModel<PREC
         true
     }
 
-    /// All rows in order, each once: symbol, left cumulative and weight. The walk takes no memory, and
-    /// every item is a row.
+    /// All rows in order, each once: symbol, left cumulative and weight. The walk takes no memory,
+    /// and every item is a row.
     #[inline]
     fn symbol_table(self) -> UniformSymbolTable<Probability, PRECISION> {
         UniformSymbolTable::new(self)

@@ -45,8 +45,8 @@ where
 
 /// The entries of the rows that a walk gives. Symbols are not compared.
 ///
-/// The upper bound that a walk announces is a promise, by the contract of `size_hint`. If there is room for that many
-/// rows, the loop does not test for room.
+/// The upper bound that a walk announces is a promise, by the contract of `size_hint`. If there is
+/// room for that many rows, the loop does not test for room.
 #[inline]
 pub fn entries_collected<Symbol, Word, Positive, Walk, const PRECISION: usize>(
     alloc: Global,
@@ -59,7 +59,8 @@ where
     Walk: Iterator<Item = Result<(Symbol, Word, Positive), AllocError>>,
     requires goes { Walk.can_next walk }
     requires ends { IsFinite (Walk.remaining walk) }
-    ensures { IfOk result (λ v. WalkedGood Walk.next_gives walk (λ xs. v.items ≡ map (λ x. (x.1, x.0)) xs)) }
+    ensures { IfOk result (λ v. WalkedGood Walk.next_gives walk (λ xs.
+        v.items ≡ map (λ x. (x.1, x.0)) xs)) }
 {
     let (least, most) = walk.size_hint();
     let entries = Vec::with_capacity(alloc, entries_announced::<PRECISION>(least))?;
@@ -83,7 +84,8 @@ where
     requires empty { entries.items ≡ [] }
     requires goes { Walk.can_next walk }
     requires room { UpTo (Walk.remaining walk) (vec_capacity entries) }
-    ensures { IfOk result (λ v. WalkedGood Walk.next_gives walk (λ xs. v.items ≡ map (λ x. (x.1, x.0)) xs)) }
+    ensures { IfOk result (λ v. WalkedGood Walk.next_gives walk (λ xs.
+        v.items ≡ map (λ x. (x.1, x.0)) xs)) }
 {
     'rows: while let Some(row) = walk.next() {
         let (symbol, left, _weight) = row?;
@@ -106,7 +108,8 @@ where
     requires empty { entries.items ≡ [] }
     requires goes { Walk.can_next walk }
     requires ends { IsFinite (Walk.remaining walk) }
-    ensures { IfOk result (λ v. WalkedGood Walk.next_gives walk (λ xs. v.items ≡ map (λ x. (x.1, x.0)) xs)) }
+    ensures { IfOk result (λ v. WalkedGood Walk.next_gives walk (λ xs.
+        v.items ≡ map (λ x. (x.1, x.0)) xs)) }
 {
     'rows: while let Some(row) = walk.next() {
         let (symbol, left, _weight) = row?;

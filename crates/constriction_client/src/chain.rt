@@ -26,15 +26,16 @@ pub enum ChainStep {
     ToSearch,
     /// To the form with a lookup table, by the same and `into_lookup_decoder_model`.
     ToLookup,
-    /// To the form that searches all rows, by `into_non_contiguous_categorical`, which takes no memory. A
-    /// form that already searches stays as it is.
+    /// To the form that searches all rows, by `into_non_contiguous_categorical`, which takes no
+    /// memory. A form that already searches stays as it is.
     IntoSearch,
-    /// To a form of the same kind, by `from_distinct_symbols_and_nonzero_fixed_point_probabilities`.
+    /// To a form of the same kind, by
+    /// `from_distinct_symbols_and_nonzero_fixed_point_probabilities`.
     Rebuild,
 }
 
-/// The symbols of the rows that a walk gives, and their weights as words, in order. It stops at the first
-/// refusal.
+/// The symbols of the rows that a walk gives, and their weights as words, in order. It stops at the
+/// first refusal.
 fn symbols_and_words<Symbol: Drop, Word: WholeNumber, Walk>(
     alloc: Global,
     walk: Walk,
@@ -43,8 +44,9 @@ where
     Walk: Iterator<Item = Result<(Symbol, Word, Weight<Word>), AllocError>>,
     requires callable { Walk.can_next walk }
     requires ends { IsFinite (Walk.remaining walk) }
-    ensures { IfOk result (λ lists. (rows : List (Symbol × Word × Word.NonZero)) × Drains Walk.next_gives walk (map Ok rows)
-        × (lists.0.items ≡ map (λ x. x.0) rows) × (lists.1.items ≡ map (λ x. Word.base x.2) rows)) }
+    ensures { IfOk result (λ lists. (rows : List (Symbol × Word × Word.NonZero))
+        × Drains Walk.next_gives walk (map Ok rows) × (lists.0.items ≡ map (λ x. x.0) rows)
+        × (lists.1.items ≡ map (λ x. Word.base x.2) rows)) }
 {
     let announced = walk.size_hint().0;
     let mut symbols = Vec::with_capacity(alloc, announced)?;
@@ -57,8 +59,8 @@ where
     Ok((symbols, words))
 }
 
-/// The symbols that a walk through a model gives, and the weights of its rows, in order. The constructors from
-/// symbols and weights accept them, and make rows that stand for the model's.
+/// The symbols that a walk through a model gives, and the weights of its rows, in order. The
+/// constructors from symbols and weights accept them, and make rows that stand for the model's.
 fn symbols_and_weights<M, const PRECISION: usize>(
     alloc: Global,
     model: M,
@@ -68,8 +70,8 @@ where
     M::Symbol: Eq + Drop,
     requires clones { ClonesAreEqual M.Symbol.eq M.stands_for }
     requires distinct { IsDistinct M.Symbol.eq (symbols_of (M.rows model)) }
-    ensures accepted { IfOk result (λ lists. AreAccepted M.Symbol.eq M.Probability.BITS PRECISION lists.0.items
-        (map M.Probability.whole lists.1.items)) }
+    ensures accepted { IfOk result (λ lists. AreAccepted M.Symbol.eq M.Probability.BITS PRECISION
+        lists.0.items (map M.Probability.whole lists.1.items)) }
     ensures rows { IfOk result (λ lists. StandForRows M.stands_for
         (rows_of lists.0.items (map M.Probability.whole lists.1.items)) (M.rows model)) }
 {
@@ -85,8 +87,10 @@ fn searching_of<Symbol: Eq + Drop, Probability: WholeNumber, const PRECISION: us
     weights: Vec<Probability>,
 ) -> Result<Searching<Symbol, Probability, PRECISION>, ModelError>
     requires precision { IsPrecision Probability.BITS PRECISION }
-    requires accepted { AreAccepted Symbol.eq Probability.BITS PRECISION symbols.items (map Probability.whole weights.items) }
-    ensures rows { IfOk result (λ m. decoder_model_rows m ≡ rows_of symbols.items (map Probability.whole weights.items)) }
+    requires accepted { AreAccepted Symbol.eq Probability.BITS PRECISION symbols.items
+        (map Probability.whole weights.items) }
+    ensures rows { IfOk result (λ m.
+        decoder_model_rows m ≡ rows_of symbols.items (map Probability.whole weights.items)) }
     ensures refused { IfErr result (λ e. e ≡ ModelError.OutOfMemory) }
 {
     Searching::from_distinct_symbols_and_nonzero_fixed_point_probabilities(
@@ -101,7 +105,8 @@ fn searched<Symbol: Eq + Clone + Drop, Probability: IndexWord, const PRECISION: 
 ) -> Result<Searching<Symbol, Probability, PRECISION>, ModelError>
     requires clones { ClonesAreEqual Symbol.eq Symbol.is_clone }
     requires distinct { IsDistinct Symbol.eq (symbols_of (form_rows form.now)) }
-    ensures rows { IfOk result (λ m. StandForRows Symbol.is_clone (decoder_model_rows m) (form_rows form.now)) }
+    ensures rows { IfOk result (λ m.
+        StandForRows Symbol.is_clone (decoder_model_rows m) (form_rows form.now)) }
     ensures refused { IfErr result (λ e. e ≡ ModelError.OutOfMemory) }
 {
     to_generic_decoder_model_of_distinct(alloc, form)
@@ -129,8 +134,8 @@ fn tabled_of<Symbol: Eq + Drop, Probability: IndexWord, const PRECISION: usize>(
     Ok(DecoderForm::Lookup(model.into_lookup_decoder_model(alloc)?))
 }
 
-/// A form that a chain can convert. A conversion keeps the rows, or makes them anew with clones of their
-/// symbols. The only refusal is `OutOfMemory`.
+/// A form that a chain can convert. A conversion keeps the rows, or makes them anew with clones of
+/// their symbols. The only refusal is `OutOfMemory`.
 trait Converts<Symbol>: Sized {
     // The rows of a form.
     ghost rows_of_form: { Self → List (Row Symbol) };
@@ -147,14 +152,16 @@ trait Converts<Symbol>: Sized {
     /// The searching form of the same rows.
     fn to_search(&self, alloc: Global) -> Result<Self, ModelError>
         requires { may_convert }
-        ensures rows { IfOk result (λ made. StandForRows clone_of (rows_of_form made) (rows_of_form self.now)) }
+        ensures rows { IfOk result (λ made.
+            StandForRows clone_of (rows_of_form made) (rows_of_form self.now)) }
         ensures kind { IfOk result (λ made. looks_up made ≡ false) }
         ensures refused { IfErr result (λ e. e ≡ ModelError.OutOfMemory) };
 
     /// The form with a lookup table, of the same rows.
     fn to_lookup(&self, alloc: Global) -> Result<Self, ModelError>
         requires { may_convert }
-        ensures rows { IfOk result (λ made. StandForRows clone_of (rows_of_form made) (rows_of_form self.now)) }
+        ensures rows { IfOk result (λ made.
+            StandForRows clone_of (rows_of_form made) (rows_of_form self.now)) }
         ensures kind { IfOk result (λ made. looks_up made ≡ true) }
         ensures refused { IfErr result (λ e. e ≡ ModelError.OutOfMemory) };
 
@@ -166,7 +173,8 @@ trait Converts<Symbol>: Sized {
     /// A form of the same kind, made anew of the symbols and the weights of the rows.
     fn rebuild(&self, alloc: Global) -> Result<Self, ModelError>
         requires { may_convert }
-        ensures rows { IfOk result (λ made. StandForRows clone_of (rows_of_form made) (rows_of_form self.now)) }
+        ensures rows { IfOk result (λ made.
+            StandForRows clone_of (rows_of_form made) (rows_of_form self.now)) }
         ensures kind { IfOk result (λ made. looks_up made ≡ looks_up self.now) }
         ensures refused { IfErr result (λ e. e ≡ ModelError.OutOfMemory) };
 }
@@ -219,8 +227,10 @@ fn convert_once<Symbol, Form: Converts<Symbol> + Drop>(
     step: &ChainStep,
 ) -> Result<Form, ModelError>
     requires { Form.may_convert }
-    ensures rows { IfOk result (λ made. StepLeaves Form.clone_of step.now (Form.rows_of_form form) (Form.rows_of_form made)) }
-    ensures kind { IfOk result (λ made. Form.looks_up made ≡ is_lookup_after (Form.looks_up form) step.now) }
+    ensures rows { IfOk result (λ made.
+        StepLeaves Form.clone_of step.now (Form.rows_of_form form) (Form.rows_of_form made)) }
+    ensures kind { IfOk result (λ made.
+        Form.looks_up made ≡ is_lookup_after (Form.looks_up form) step.now) }
     ensures refused { IfErr result (λ e. e ≡ ModelError.OutOfMemory) }
 {
     match step {
@@ -238,8 +248,10 @@ fn convert_by<Symbol, Form: Converts<Symbol> + Drop>(
     steps: &[ChainStep],
 ) -> Result<Form, ModelError>
     requires { Form.may_convert }
-    ensures rows { IfOk result (λ made. ChainLeaves Form.clone_of steps.now (Form.rows_of_form form) (Form.rows_of_form made)) }
-    ensures kind { IfOk result (λ made. Form.looks_up made ≡ fold is_lookup_after (Form.looks_up form) steps.now) }
+    ensures rows { IfOk result (λ made.
+        ChainLeaves Form.clone_of steps.now (Form.rows_of_form form) (Form.rows_of_form made)) }
+    ensures kind { IfOk result (λ made.
+        Form.looks_up made ≡ fold is_lookup_after (Form.looks_up form) steps.now) }
     ensures refused { IfErr result (λ e. e ≡ ModelError.OutOfMemory) }
 {
     let mut form = form;
@@ -249,10 +261,11 @@ fn convert_by<Symbol, Form: Converts<Symbol> + Drop>(
     Ok(form)
 }
 
-/// Converts a decoder's model by each step in turn. A step that makes the model anew clones its symbols.
+/// Converts a decoder's model by each step in turn. A step that makes the model anew clones its
+/// symbols.
 ///
-/// If memory is refused, the form is dropped. At most one more form is in memory at a time; a rebuilding
-/// also has a list of symbols and a list of weights.
+/// If memory is refused, the form is dropped. At most one more form is in memory at a time; a
+/// rebuilding also has a list of symbols and a list of weights.
 pub fn convert_chain<Symbol: Eq + Clone + Drop, Probability: IndexWord, const PRECISION: usize>(
     alloc: Global,
     form: DecoderForm<Symbol, Probability, PRECISION>,
@@ -260,9 +273,12 @@ pub fn convert_chain<Symbol: Eq + Clone + Drop, Probability: IndexWord, const PR
 ) -> Result<DecoderForm<Symbol, Probability, PRECISION>, ModelError>
     requires narrow { PRECISION ≤ 63 }
     requires clones { ClonesAreEqual Symbol.eq Symbol.is_clone }
-    ensures rows { IfOk result (λ made. ChainLeaves Symbol.is_clone steps.now (form_rows form) (form_rows made)) }
-    ensures exact { IfOk result (λ made. ClonesAreSame Symbol.is_clone → form_rows made ≡ form_rows form) }
-    ensures kind { IfOk result (λ made. is_lookup made ≡ fold is_lookup_after (is_lookup form) steps.now) }
+    ensures rows { IfOk result (λ made.
+        ChainLeaves Symbol.is_clone steps.now (form_rows form) (form_rows made)) }
+    ensures exact { IfOk result (λ made. ClonesAreSame Symbol.is_clone
+        → form_rows made ≡ form_rows form) }
+    ensures kind { IfOk result (λ made.
+        is_lookup made ≡ fold is_lookup_after (is_lookup form) steps.now) }
     ensures refused { IfErr result (λ e. e ≡ ModelError.OutOfMemory) }
 {
     form_symbols_differ::<Symbol, Probability, PRECISION>();

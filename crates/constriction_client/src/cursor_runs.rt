@@ -19,7 +19,8 @@ fn step<Word: Copy + Drop, Buf: SafeBufMut<Word>>(
     call: &CursorCall<Word>,
 ) -> CursorReply<Word>
     ensures replied { RepliesTo (state_of cursor.old) call.now result (state_of cursor.new) }
-    ensures kept { buf_of cursor.new ≡ Buf.with_words (buf_of cursor.old) (Buf.words_of (buf_of cursor.new)) }
+    ensures kept { buf_of cursor.new
+        ≡ Buf.with_words (buf_of cursor.old) (Buf.words_of (buf_of cursor.new)) }
 {
     match call {
         CursorCall::StackRead => {
@@ -59,9 +60,10 @@ fn seek_reversed<Word, Buf: SafeBufMut<Word>>(
     reversed: &mut Reverse<Cursor<Word, Buf>>,
     position: usize,
 ) -> CursorReply<Word>
-    ensures replied { RepliesTo (reversal (state_of reversed.old.0)) (CursorCall.Seek position) result
-        (reversal (state_of reversed.new.0)) }
-    ensures kept { buf_of reversed.new.0 ≡ Buf.with_words (buf_of reversed.old.0) (Buf.words_of (buf_of reversed.new.0)) }
+    ensures replied { RepliesTo (reversal (state_of reversed.old.0)) (CursorCall.Seek position)
+        result (reversal (state_of reversed.new.0)) }
+    ensures kept { buf_of reversed.new.0
+        ≡ Buf.with_words (buf_of reversed.old.0) (Buf.words_of (buf_of reversed.new.0)) }
 {
     let len = reversed.0.buf().words().len();
     if position > len {
@@ -73,13 +75,16 @@ fn seek_reversed<Word, Buf: SafeBufMut<Word>>(
     }
 }
 
-/// Makes a call of a cursor that was turned round, with positions that are counted on the unreversed side.
+/// Makes a call of a cursor that was turned round, with positions that are counted on the
+/// unreversed side.
 fn step_reversed<Word: Copy + Drop, Buf: SafeBufMut<Word>>(
     reversed: &mut Reverse<Cursor<Word, Buf>>,
     call: &CursorCall<Word>,
 ) -> CursorReply<Word>
-    ensures replied { RepliesTo (reversal (state_of reversed.old.0)) call.now result (reversal (state_of reversed.new.0)) }
-    ensures kept { buf_of reversed.new.0 ≡ Buf.with_words (buf_of reversed.old.0) (Buf.words_of (buf_of reversed.new.0)) }
+    ensures replied { RepliesTo (reversal (state_of reversed.old.0)) call.now result
+        (reversal (state_of reversed.new.0)) }
+    ensures kept { buf_of reversed.new.0
+        ≡ Buf.with_words (buf_of reversed.old.0) (Buf.words_of (buf_of reversed.new.0)) }
 {
     match call {
         CursorCall::StackRead => {
@@ -119,7 +124,8 @@ pub(crate) fn run_reserved<Word: Copy + Drop, Buf: SafeBufMut<Word>>(
     requires empty { replies.items ≡ [] }
     requires room { length calls.now ≤ vec_capacity replies }
     ensures ran { Runs (state_of cursor.old) calls.now result.items (state_of cursor.new) }
-    ensures kept { buf_of cursor.new ≡ Buf.with_words (buf_of cursor.old) (Buf.words_of (buf_of cursor.new)) }
+    ensures kept { buf_of cursor.new
+        ≡ Buf.with_words (buf_of cursor.old) (Buf.words_of (buf_of cursor.new)) }
 {
     for call in calls {
         let reply = step(cursor, call);
@@ -136,8 +142,10 @@ pub(crate) fn run_reversed_reserved<Word: Copy + Drop, Buf: SafeBufMut<Word>>(
 ) -> Vec<CursorReply<Word>>
     requires empty { replies.items ≡ [] }
     requires room { length calls.now ≤ vec_capacity replies }
-    ensures ran { Runs (reversal (state_of reversed.old.0)) calls.now result.items (reversal (state_of reversed.new.0)) }
-    ensures kept { buf_of reversed.new.0 ≡ Buf.with_words (buf_of reversed.old.0) (Buf.words_of (buf_of reversed.new.0)) }
+    ensures ran { Runs (reversal (state_of reversed.old.0)) calls.now result.items
+        (reversal (state_of reversed.new.0)) }
+    ensures kept { buf_of reversed.new.0
+        ≡ Buf.with_words (buf_of reversed.old.0) (Buf.words_of (buf_of reversed.new.0)) }
 {
     for call in calls {
         let reply = step_reversed(reversed, call);
@@ -149,14 +157,17 @@ pub(crate) fn run_reversed_reserved<Word: Copy + Drop, Buf: SafeBufMut<Word>>(
 /// Runs calls on a cursor, in order, and answers a reply for each. A call that is refused, or that
 /// finds no word, leaves the cursor as it is, and the run goes on.
 ///
-/// Memory for the replies is asked for once, before the first call. If it is refused, no call was made.
+/// Memory for the replies is asked for once, before the first call. If it is refused, no call was
+/// made.
 pub fn run_cursor<Word: Copy + Drop, Buf: SafeBufMut<Word>>(
     alloc: Global,
     cursor: &mut Cursor<Word, Buf>,
     calls: &[CursorCall<Word>],
 ) -> Result<Vec<CursorReply<Word>>, AllocError>
-    ensures ok { IfOk result (λ replies. Runs (state_of cursor.old) calls.now replies.items (state_of cursor.new)) }
-    ensures kept { buf_of cursor.new ≡ Buf.with_words (buf_of cursor.old) (Buf.words_of (buf_of cursor.new)) }
+    ensures ok { IfOk result (λ replies.
+        Runs (state_of cursor.old) calls.now replies.items (state_of cursor.new)) }
+    ensures kept { buf_of cursor.new
+        ≡ Buf.with_words (buf_of cursor.old) (Buf.words_of (buf_of cursor.new)) }
     ensures err { OnErr result (cursor.new ≡ cursor.old) }
 {
     let replies = Vec::with_capacity(alloc, calls.len())?;
@@ -164,16 +175,17 @@ pub fn run_cursor<Word: Copy + Drop, Buf: SafeBufMut<Word>>(
 }
 
 /// As [`run_cursor`], on a cursor that was turned round, as by `into_reversed`. It replies as the
-/// unreversed cursor would. Positions are counted on the unreversed side: each is the number of words
-/// less the inner position.
+/// unreversed cursor would. Positions are counted on the unreversed side: each is the number of
+/// words less the inner position.
 pub fn run_reversed<Word: Copy + Drop, Buf: SafeBufMut<Word>>(
     alloc: Global,
     reversed: &mut Reverse<Cursor<Word, Buf>>,
     calls: &[CursorCall<Word>],
 ) -> Result<Vec<CursorReply<Word>>, AllocError>
-    ensures ok { IfOk result (λ replies.
-        Runs (reversal (state_of reversed.old.0)) calls.now replies.items (reversal (state_of reversed.new.0))) }
-    ensures kept { buf_of reversed.new.0 ≡ Buf.with_words (buf_of reversed.old.0) (Buf.words_of (buf_of reversed.new.0)) }
+    ensures ok { IfOk result (λ replies. Runs (reversal (state_of reversed.old.0)) calls.now
+        replies.items (reversal (state_of reversed.new.0))) }
+    ensures kept { buf_of reversed.new.0
+        ≡ Buf.with_words (buf_of reversed.old.0) (Buf.words_of (buf_of reversed.new.0)) }
     ensures err { OnErr result (reversed.new ≡ reversed.old) }
 {
     let replies = Vec::with_capacity(alloc, calls.len())?;

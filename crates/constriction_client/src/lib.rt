@@ -1,4 +1,5 @@
-//! Functions over models and cursors: symbols as words and back, conversions, queries, and runs of calls.
+//! Functions over models and cursors: symbols as words and back, conversions, queries, and runs of
+//! calls.
 //!
 //! [`write_quantiles`] and [`read_symbols`] turn symbols into words and words into symbols, over
 //! any model and any sink or source. [`convert_chain`] takes a decoder's model through any

@@ -64,9 +64,10 @@ fn quantile_of_item<E, const PRECISION: usize>(
 ) -> Result<E::Probability, QuantileFault>
 where
     E: EncoderModel<PRECISION>,
-    ensures ok { IfOk result (λ word. IsQuantileOf (entry_of E.symbol_eq (E.rows encoder.now)) E.Probability.whole
-        item.now (E.Probability.whole word)) }
-    ensures err { IfErr result (IsFaultOf (entry_of E.symbol_eq (E.rows encoder.now)) E.Probability.whole item.now) }
+    ensures ok { IfOk result (λ word. IsQuantileOf (entry_of E.symbol_eq (E.rows encoder.now))
+        E.Probability.whole item.now (E.Probability.whole word)) }
+    ensures err { IfErr result
+        (IsFaultOf (entry_of E.symbol_eq (E.rows encoder.now)) E.Probability.whole item.now) }
 {
     match encoder.left_cumulative_and_probability(&item.0) {
         Some((left, weight)) => quantile_within(item, left, E::Probability::from_weight(weight)),
@@ -97,8 +98,8 @@ where
 /// Writes the quantile of each item, in order: the left cumulative of its symbol plus its offset,
 /// which says which of the symbol's quantiles is meant.
 ///
-/// It stops at the first item that is refused, with `Frontend` if the item has no quantile and
-/// with `Backend` if the sink refuses it. The words of the items before it stay written. It makes one
+/// It stops at the first item that is refused, with `Frontend` if the item has no quantile and with
+/// `Backend` if the sink refuses it. The words of the items before it stay written. It makes one
 /// pass over the items, and one write for each.
 pub fn write_quantiles<E, W, const PRECISION: usize>(
     encoder: &E,
@@ -109,10 +110,10 @@ where
     E: EncoderModel<PRECISION>,
     W: WriteWords<E::Probability>,
     requires can_write { W.can_write sink.old }
-    ensures ok { OnOk result (WritesItems (entry_of E.symbol_eq (E.rows encoder.now)) E.Probability.whole
-        W.write_gives W.tells_written items.now sink.old sink.new) }
-    ensures err { IfErr result (λ error. StopsAtItem (entry_of E.symbol_eq (E.rows encoder.now)) E.Probability.whole
-        W.write_gives W.tells_written items.now sink.old error sink.new) }
+    ensures ok { OnOk result (WritesItems (entry_of E.symbol_eq (E.rows encoder.now))
+        E.Probability.whole W.write_gives W.tells_written items.now sink.old sink.new) }
+    ensures err { IfErr result (λ error. StopsAtItem (entry_of E.symbol_eq (E.rows encoder.now))
+        E.Probability.whole W.write_gives W.tells_written items.now sink.old error sink.new) }
     ensures goes_on { W.can_write sink.new }
 {
     for item in items {
@@ -128,13 +129,14 @@ where
     Ok(())
 }
 
-/// Reads up to `count` words, and adds the pair of each to `out`: the symbol of the word's row, or a clone if
-/// the model owns its symbols, and how far the word lies after the left cumulative of that row.
+/// Reads up to `count` words, and adds the pair of each to `out`: the symbol of the word's row, or
+/// a clone if the model owns its symbols, and how far the word lies after the left cumulative of
+/// that row.
 ///
-/// It answers the number of pairs that were added, which is below `count` only if the source ended. It fails
-/// with `Frontend` at a word that gives no pair, which has then been read, and with `Backend` if a read fails.
-/// Either way `out` keeps the pairs of the words before, and reading may go on. It makes one look-up for each
-/// word, and takes memory only for the symbols and for `out`.
+/// It answers the number of pairs that were added, which is below `count` only if the source ended.
+/// It fails with `Frontend` at a word that gives no pair, which has then been read, and with
+/// `Backend` if a read fails. Either way `out` keeps the pairs of the words before, and reading may
+/// go on. It makes one look-up for each word, and takes memory only for the symbols and for `out`.
 pub fn read_symbols<S: Semantics, M, R, const PRECISION: usize>(
     model: &M,
     source: &mut R,
@@ -146,10 +148,12 @@ where
     M::Symbol: Drop,
     R: ReadWords<M::Probability, S>,
     requires can_read { R.can_read source.old }
-    ensures pairs { ReadsPairs R.ReadWords (GivesPair M.stands_for (M.rows model.now) M.Probability.whole PRECISION
-        (λ q. RowMayBeRefused M.may_refuse (M.rows model.now) q ⊎ (vec_capacity out.new ≤ length out.new.items)))
-        count source.old out.old.items result source.new out.new.items }
-    ensures capacity { length out.new.items ≤ vec_capacity out.old → vec_capacity out.new ≡ vec_capacity out.old }
+    ensures pairs { ReadsPairs R.ReadWords (GivesPair M.stands_for (M.rows model.now)
+        M.Probability.whole PRECISION (λ q. RowMayBeRefused M.may_refuse (M.rows model.now) q
+        ⊎ (vec_capacity out.new ≤ length out.new.items))) count source.old out.old.items result
+        source.new out.new.items }
+    ensures capacity { length out.new.items ≤ vec_capacity out.old
+        → vec_capacity out.new ≡ vec_capacity out.old }
     ensures goes_on { R.can_read source.new }
 {
     for done in 0..count {

@@ -43,7 +43,8 @@ fn answer_query<D, E, const PRECISION: usize>(
 where
     D: DecoderModel<PRECISION>,
     E: EncoderModel<PRECISION, Symbol = D::Symbol, Probability = D::Probability>,
-    ensures { IfOk result (λ reply. StandsForReply D.stands_for (in_numbers D.Probability.whole D.Probability.base reply)
+    ensures { IfOk result (λ reply.
+        StandsForReply D.stands_for (in_numbers D.Probability.whole D.Probability.base reply)
         (reply_to_query PRECISION D.Probability.whole (D.rows form.now)
         (entry_of E.symbol_eq (E.rows encoder.now)) query.now)) }
 {
@@ -62,11 +63,12 @@ where
     }
 }
 
-/// The replies to queries, in order. The decoder `form` answers quantiles, and the encoder answers symbols.
-/// The decoder is not asked for a word that is no quantile, and answers clones if it owns its symbols.
+/// The replies to queries, in order. The decoder `form` answers quantiles, and the encoder answers
+/// symbols. The decoder is not asked for a word that is no quantile, and answers clones if it owns
+/// its symbols.
 ///
-/// Memory for the replies is asked for once, before the first query. The call fails if that is refused, or if
-/// memory for a clone of a symbol is.
+/// Memory for the replies is asked for once, before the first query. The call fails if that is
+/// refused, or if memory for a clone of a symbol is.
 pub fn answer_queries<D, E, const PRECISION: usize>(
     alloc: Global,
     form: &D,
@@ -77,11 +79,13 @@ where
     D: DecoderModel<PRECISION>,
     D::Symbol: Drop,
     E: EncoderModel<PRECISION, Symbol = D::Symbol, Probability = D::Probability>,
-    ensures ok { IfOk result (λ replies. AreRepliesOf D.stands_for
-        (map (reply_to_query PRECISION D.Probability.whole (D.rows form.now) (entry_of E.symbol_eq (E.rows encoder.now))) queries.now)
+    ensures ok { IfOk result (λ replies.
+        AreRepliesOf D.stands_for (map (reply_to_query PRECISION D.Probability.whole
+        (D.rows form.now) (entry_of E.symbol_eq (E.rows encoder.now))) queries.now)
         (map (in_numbers D.Probability.whole D.Probability.base) replies.items)) }
-    ensures of_one { IfOk result (λ replies. SameEntries E.symbol_eq (E.rows encoder.now) (D.rows form.now)
-        → AreRepliesOf D.stands_for (replies_by_scan PRECISION D.Probability.whole E.symbol_eq queries.now (D.rows form.now))
+    ensures of_one { IfOk result (λ replies.
+        SameEntries E.symbol_eq (E.rows encoder.now) (D.rows form.now) → AreRepliesOf D.stands_for
+        (replies_by_scan PRECISION D.Probability.whole E.symbol_eq queries.now (D.rows form.now))
         (map (in_numbers D.Probability.whole D.Probability.base) replies.items)) }
 {
     let mut replies = Vec::with_capacity(alloc, queries.len())?;

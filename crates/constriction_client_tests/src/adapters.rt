@@ -14,14 +14,16 @@ type Small = ContiguousCategoricalEntropyModel<u8, Vec<u8>, 6>;
 
 type Read = Result<usize, CoderError<ReadFault, Infallible>>;
 
-/// Reads the first `count` words of a slice as pairs, or all words if there are fewer. The source is over the slice's iterator. The
-/// model clones no symbol, so memory is refused only if the list of pairs is full.
+/// Reads the first `count` words of a slice as pairs, or all words if there are fewer. The source
+/// is over the slice's iterator. The model clones no symbol, so memory is refused only if the list
+/// of pairs is full.
 fn read_slice(model: &Small, words: &[u8], count: usize, out: &mut Vec<(usize, u8)>) -> Read
-    ensures pairs { IfOk result (λ n. (pairs : List _)
-        × ArePairs (λ s t. t ≡ s) (⟦<ContiguousCategoricalEntropyModel<u8, Vec<u8>, 6> as EntropyModel<6>>⟧.rows model.now) (λ word. word)
-        (take count words.now) pairs
-        × (length pairs ≡ n) × (out.new.items ≡ out.old.items ++ pairs)) }
-    ensures memory { result ≡ Err (CoderError.Frontend ReadFault.OutOfMemory) → vec_capacity out.new ≤ length out.new.items }
+    ensures pairs { IfOk result (λ n. (pairs : List _) × ArePairs (λ s t. t ≡ s)
+        (⟦<ContiguousCategoricalEntropyModel<u8, Vec<u8>, 6> as EntropyModel<6>>⟧.rows model.now)
+        (λ word. word) (take count words.now) pairs × (length pairs ≡ n)
+        × (out.new.items ≡ out.old.items ++ pairs)) }
+    ensures memory { result ≡ Err (CoderError.Frontend ReadFault.OutOfMemory)
+        → vec_capacity out.new ≤ length out.new.items }
 {
     let mut source = InfallibleIteratorReadWords::new(words.iter().copied());
     read_symbols::<Queue, _, _, 6>(model, &mut source, count, out)

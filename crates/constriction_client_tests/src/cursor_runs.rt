@@ -45,8 +45,8 @@ fn at_1<Buf: SafeBufMut<u8> + Drop>(rt: &impl Abort, buf: Buf) -> Cursor<u8, Buf
     Cursor::<u8, Buf>::new_at_pos_mut(buf, 1).expect(rt, "1 is a position")
 }
 
-/// Runs the calls on a cursor, and then on another one. By the law the replies are the same if one cursor is the reversal of the
-/// other.
+/// Runs the calls on a cursor, and then on another one. By the law the replies are the same if one
+/// cursor is the reversal of the other.
 fn one_after_the_other<Buf: SafeBufMut<u8>, Turned: SafeBufMut<u8>>(
     alloc: Global,
     cursor: &mut Cursor<u8, Buf>,
@@ -54,7 +54,8 @@ fn one_after_the_other<Buf: SafeBufMut<u8>, Turned: SafeBufMut<u8>>(
     calls: &[CursorCall<u8>],
 ) -> BothReplies
     ensures { IfOk result (λ both. state_of reversed.old.0 ≡ reversal (state_of cursor.old)
-        → (both.1.items ≡ both.0.items) × (state_of reversed.new.0 ≡ reversal (state_of cursor.new))) }
+        → (both.1.items ≡ both.0.items)
+        × (state_of reversed.new.0 ≡ reversal (state_of cursor.new))) }
 {
     runs_are_alike::<u8>();
     let replies = run_cursor(alloc, cursor, calls)?;
@@ -74,8 +75,8 @@ fn marked(rt: &impl Abort, alloc: Global) -> Marked {
     Marked::new(vec_of(rt, alloc, &[10, 20, 30]))
 }
 
-/// Asserts that a cursor over 10, 20, 30 at 1, and the reversal of one over a copy of them, give the expected replies to the
-/// calls, and leave the expected words and positions.
+/// Asserts that a cursor over 10, 20, 30 at 1, and the reversal of one over a copy of them, give
+/// the expected replies to the calls, and leave the expected words and positions.
 fn are_run<Buf: SafeBufMut<u8> + Drop>(rt: &impl Abort, alloc: Global, buf: Buf, copy: Buf) {
     let mut cursor = at_1(rt, buf);
     let mut reversed = at_1(rt, copy).into_reversed();
@@ -92,7 +93,8 @@ fn a_cursor_over_a_buffer_of_the_caller_and_its_reversal_reply_the_same(rt: Host
     are_run(&rt, alloc, marked(&rt, alloc), marked(&rt, alloc));
 }
 
-/// The replies of a cursor and of the reversal of a copy of it. They are the same, whatever the calls are.
+/// The replies of a cursor and of the reversal of a copy of it. They are the same, whatever the
+/// calls are.
 fn replies_of_both<Buf: SafeBufMut<u8>>(
     alloc: Global,
     cursor: &mut Cursor<u8, Buf>,

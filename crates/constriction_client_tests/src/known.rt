@@ -1,5 +1,6 @@
-//! What contracts alone tell a caller of the client, and a caller that already has a form: words, items and replies. A body that
-//! answers otherwise does not meet these contracts, even if the check refuses it at a written proof.
+//! What contracts alone tell a caller of the client, and a caller that already has a form: words,
+//! items and replies. A body that answers otherwise does not meet these contracts, even if the
+//! check refuses it at a written proof.
 
 ghost use Rattle.std.specs.Prelude.{◌≡◌, ◌++◌, [], ◌∷◌, Some, IfOk, IfSome, OnOk, IsTrue, false, map, nat_eq, true};
 ghost use Rattle.constriction.specs.Entries.{SameEntries};
@@ -27,9 +28,11 @@ use constriction_words::{CoderError, Seek, WholeNumber};
 use std::alloc::{AllocError, Global};
 use std::process::Abort;
 
-/// Whether an item of the second symbol was written. The weights of 0, 1, 2 and 3 are 3, 18, 1 and 42.
+/// Whether an item of the second symbol was written. The weights of 0, 1, 2 and 3 are 3, 18, 1 and
+/// 42.
 fn written(model: &Weighted<6>, sink: &mut Vec<u8>) -> bool
-    requires { ⟦<Weighted<6> as EntropyModel<6>>⟧.rows model.now ≡ contiguous_rows (3 ∷ 18 ∷ 1 ∷ 42 ∷ []) }
+    requires { ⟦<Weighted<6> as EntropyModel<6>>⟧.rows model.now
+        ≡ contiguous_rows (3 ∷ 18 ∷ 1 ∷ 42 ∷ []) }
     ensures { IsTrue result → sink.new.items ≡ sink.old.items ++ 5 ∷ [] }
 {
     write_quantiles(model, &[(1, 2)], sink).is_ok()
@@ -37,7 +40,8 @@ fn written(model: &Weighted<6>, sink: &mut Vec<u8>) -> bool
 
 /// Whether an item was written whose offset is the weight of its symbol.
 fn too_large_was_written(model: &Weighted<6>, sink: &mut Vec<u8>) -> bool
-    requires { ⟦<Weighted<6> as EntropyModel<6>>⟧.rows model.now ≡ contiguous_rows (3 ∷ 18 ∷ 1 ∷ 42 ∷ []) }
+    requires { ⟦<Weighted<6> as EntropyModel<6>>⟧.rows model.now
+        ≡ contiguous_rows (3 ∷ 18 ∷ 1 ∷ 42 ∷ []) }
     ensures { result ≡ false }
 {
     write_quantiles(model, &[(1, 18)], sink).is_ok()
@@ -59,10 +63,12 @@ fn through_a_cursor(
     model: &Weighted<6>,
     cursor: &mut Cursor<u8, Vec<u8>>,
 ) -> Option<Vec<(usize, u8)>>
-    requires rows { ⟦<Weighted<6> as EntropyModel<6>>⟧.rows model.now ≡ contiguous_rows (3 ∷ 18 ∷ 1 ∷ 42 ∷ []) }
+    requires rows { ⟦<Weighted<6> as EntropyModel<6>>⟧.rows model.now
+        ≡ contiguous_rows (3 ∷ 18 ∷ 1 ∷ 42 ∷ []) }
     requires at { state_of cursor.old ≡ record { before = []; after = 0 ∷ 1 ∷ [] } }
     ensures items { IfSome result (λ pairs. pairs.items ≡ (1, 2) ∷ []) }
-    ensures words { IfSome result (λ _. state_of cursor.new ≡ record { before = 5 ∷ []; after = 1 ∷ [] }) }
+    ensures words { IfSome result (λ _.
+        state_of cursor.new ≡ record { before = 5 ∷ []; after = 1 ∷ [] }) }
 {
     match there_and_back_in_a_cursor(alloc, model, model, &[(1, 2)], cursor) {
         Ok(pairs) => Some(pairs),
@@ -79,7 +85,8 @@ fn at_0(alloc: Global) -> Result<Cursor<u8, Vec<u8>>, AllocError>
 
 /// The replies to three queries.
 fn replies(alloc: Global, model: &Weighted<6>) -> Result<Vec<Reply<usize, u8>>, AllocError>
-    requires { ⟦<Weighted<6> as EntropyModel<6>>⟧.rows model.now ≡ contiguous_rows (3 ∷ 18 ∷ 1 ∷ 42 ∷ []) }
+    requires { ⟦<Weighted<6> as EntropyModel<6>>⟧.rows model.now
+        ≡ contiguous_rows (3 ∷ 18 ∷ 1 ∷ 42 ∷ []) }
     ensures { IfOk result (λ replies.
         map (in_numbers ⟦<u8 as WholeNumber>⟧.whole ⟦<u8 as WholeNumber>⟧.base) replies.items
         ≡ answer.Row 1 3 18 ∷ answer.OutOfRange ∷ answer.Entry (Some (3, 18)) ∷ []) }
@@ -92,7 +99,8 @@ fn replies(alloc: Global, model: &Weighted<6>) -> Result<Vec<Reply<usize, u8>>, 
     answer_queries(alloc, model, model, &queries)
 }
 
-/// The form that two conversions leave, and its replies to two queries, with the hashed encoder of the same entries.
+/// The form that two conversions leave, and its replies to two queries, with the hashed encoder of
+/// the same entries.
 fn replies_after(
     alloc: Global,
     form: DecoderForm<char, u8, 6>,
@@ -133,7 +141,8 @@ fn at_1_turned(alloc: Global) -> Result<Reverse<Cursor<u8, Vec<u8>>>, AllocError
 /// Whether the first one was sought to its beginning.
 fn was_sought(cursor: &mut Cursor<u8, Vec<u8>>) -> bool
     requires { state_of cursor.old ≡ record { before = 10 ∷ []; after = 20 ∷ 30 ∷ [] } }
-    ensures { IsTrue result → state_of cursor.new ≡ record { before = []; after = 10 ∷ 20 ∷ 30 ∷ [] } }
+    ensures { IsTrue result
+        → state_of cursor.new ≡ record { before = []; after = 10 ∷ 20 ∷ 30 ∷ [] } }
 {
     match cursor.seek(0) {
         Ok(()) => true,
@@ -155,8 +164,10 @@ fn calls(
     cursor: &mut Cursor<u8, Vec<u8>>,
 ) -> Result<Vec<CursorReply<u8>>, AllocError>
     requires { state_of cursor.old ≡ record { before = 10 ∷ []; after = 20 ∷ 30 ∷ [] } }
-    ensures replies { IfOk result (λ replies. replies.items ≡ reply.Word (Some 10) ∷ reply.Written ∷ []) }
-    ensures left { OnOk result (state_of cursor.new ≡ record { before = 7 ∷ []; after = 20 ∷ 30 ∷ [] }) }
+    ensures replies { IfOk result (λ replies.
+        replies.items ≡ reply.Word (Some 10) ∷ reply.Written ∷ []) }
+    ensures left { OnOk result
+        (state_of cursor.new ≡ record { before = 7 ∷ []; after = 20 ∷ 30 ∷ [] }) }
 {
     run_cursor(
         alloc,
@@ -171,8 +182,10 @@ fn turned_calls(
     cursor: &mut Reverse<Cursor<u8, Vec<u8>>>,
 ) -> Result<Vec<CursorReply<u8>>, AllocError>
     requires { state_of cursor.old.0 ≡ record { before = 30 ∷ 20 ∷ []; after = 10 ∷ [] } }
-    ensures replies { IfOk result (λ replies. replies.items ≡ reply.Word (Some 10) ∷ reply.Written ∷ []) }
-    ensures left { OnOk result (state_of cursor.new.0 ≡ record { before = 30 ∷ 20 ∷ []; after = 7 ∷ [] }) }
+    ensures replies { IfOk result (λ replies.
+        replies.items ≡ reply.Word (Some 10) ∷ reply.Written ∷ []) }
+    ensures left { OnOk result
+        (state_of cursor.new.0 ≡ record { before = 30 ∷ 20 ∷ []; after = 7 ∷ [] }) }
 {
     run_reversed(
         alloc,
@@ -183,7 +196,8 @@ fn turned_calls(
 
 /// Asserts that the model writes the item, gives it back, and replies.
 fn leaves_one_result(rt: &impl Abort, alloc: Global, model: &Weighted<6>)
-    requires { ⟦<Weighted<6> as EntropyModel<6>>⟧.rows model.now ≡ contiguous_rows (3 ∷ 18 ∷ 1 ∷ 42 ∷ []) }
+    requires { ⟦<Weighted<6> as EntropyModel<6>>⟧.rows model.now
+        ≡ contiguous_rows (3 ∷ 18 ∷ 1 ∷ 42 ∷ []) }
 {
     let mut sink = Vec::new(alloc);
     same(rt, written(model, &mut sink), true);

@@ -1,5 +1,6 @@
-//! What contracts alone tell a caller that knows the rows of a model: a row, an entry, and the ends of a symbol table. A body
-//! that answers otherwise does not meet these contracts, even if the check refuses it at a written proof.
+//! What contracts alone tell a caller that knows the rows of a model: a row, an entry, and the ends
+//! of a symbol table. A body that answers otherwise does not meet these contracts, even if the
+//! check refuses it at a written proof.
 
 ghost use Rattle.std.specs.Prelude.{◌≡◌, ◌+◌, [], ◌∷◌, Some, None, Ok, Err, IfOk, IsErr, true, false, map, nat_eq};
 ghost use Rattle.constriction.specs.Acceptance.{AreAccepted};
@@ -27,7 +28,8 @@ type Tabled = NonContiguousLookupDecoderModel<char, u8, Vec<(u8, char)>, Vec<u8>
 
 /// The row of the quantile 20 of a contiguous model.
 fn row_of_20(model: &Weighted<6>) -> Result<(usize, u8, u8), AllocError>
-    requires { ⟦<Weighted<6> as EntropyModel<6>>⟧.rows model.now ≡ contiguous_rows (3 ∷ 18 ∷ 1 ∷ 42 ∷ []) }
+    requires { ⟦<Weighted<6> as EntropyModel<6>>⟧.rows model.now
+        ≡ contiguous_rows (3 ∷ 18 ∷ 1 ∷ 42 ∷ []) }
     ensures { result ≡ Ok (1, 3, 18) }
 {
     let (symbol, left, weight) = model.quantile_function(20)?;
@@ -36,7 +38,8 @@ fn row_of_20(model: &Weighted<6>) -> Result<(usize, u8, u8), AllocError>
 
 /// The same for a lookup model.
 fn looked_up(model: &Lookup) -> Result<(usize, u8, u8), AllocError>
-    requires { ⟦<Lookup as EntropyModel<6>>⟧.rows model.now ≡ contiguous_rows (3 ∷ 18 ∷ 1 ∷ 42 ∷ []) }
+    requires { ⟦<Lookup as EntropyModel<6>>⟧.rows model.now
+        ≡ contiguous_rows (3 ∷ 18 ∷ 1 ∷ 42 ∷ []) }
     ensures { result ≡ Ok (1, 3, 18) }
 {
     let (symbol, left, weight) = model.quantile_function(20)?;
@@ -45,7 +48,8 @@ fn looked_up(model: &Lookup) -> Result<(usize, u8, u8), AllocError>
 
 /// The same in a view.
 fn looked_up_in_a_view(model: &Lookup) -> Result<(usize, u8, u8), AllocError>
-    requires { ⟦<Lookup as EntropyModel<6>>⟧.rows model.now ≡ contiguous_rows (3 ∷ 18 ∷ 1 ∷ 42 ∷ []) }
+    requires { ⟦<Lookup as EntropyModel<6>>⟧.rows model.now
+        ≡ contiguous_rows (3 ∷ 18 ∷ 1 ∷ 42 ∷ []) }
     ensures { result ≡ Ok (1, 3, 18) }
 {
     let (symbol, left, weight) = model.as_view().quantile_function(20)?;
@@ -83,7 +87,8 @@ fn letter_looked_up_in_a_clone(model: &Tabled) -> Result<(char, u8, u8), AllocEr
 
 /// How many symbols a contiguous model has.
 fn size(model: &Weighted<6>) -> usize
-    requires { ⟦<Weighted<6> as EntropyModel<6>>⟧.rows model.now ≡ contiguous_rows (3 ∷ 18 ∷ 1 ∷ 42 ∷ []) }
+    requires { ⟦<Weighted<6> as EntropyModel<6>>⟧.rows model.now
+        ≡ contiguous_rows (3 ∷ 18 ∷ 1 ∷ 42 ∷ []) }
     ensures { result ≡ 4 }
 {
     model.support_size()
@@ -120,7 +125,8 @@ fn cloned(model: &Encoder) -> Result<Encoder, AllocError>
 
 /// The entry of the second symbol.
 fn second_entry(model: &Weighted<6>) -> Option<(u8, u8)>
-    requires { ⟦<Weighted<6> as EntropyModel<6>>⟧.rows model.now ≡ contiguous_rows (3 ∷ 18 ∷ 1 ∷ 42 ∷ []) }
+    requires { ⟦<Weighted<6> as EntropyModel<6>>⟧.rows model.now
+        ≡ contiguous_rows (3 ∷ 18 ∷ 1 ∷ 42 ∷ []) }
     ensures { result ≡ Some (3, 18) }
 {
     let (left, weight) = model.left_cumulative_and_probability(&1)?;
@@ -153,7 +159,8 @@ fn entry_of_65_540() -> Option<(u16, u16)>
 
 /// The symbols at both ends of a symbol table, and how many rows are left between them.
 fn ends(model: &Weighted<6>) -> (Option<usize>, Option<usize>, usize)
-    requires { ⟦<Weighted<6> as EntropyModel<6>>⟧.rows model.now ≡ contiguous_rows (3 ∷ 18 ∷ 1 ∷ 42 ∷ []) }
+    requires { ⟦<Weighted<6> as EntropyModel<6>>⟧.rows model.now
+        ≡ contiguous_rows (3 ∷ 18 ∷ 1 ∷ 42 ∷ []) }
     ensures { result ≡ (Some 0, Some 3, 2) }
 {
     let mut walk = model.symbol_table();
@@ -202,9 +209,11 @@ fn letters_at_the_ends(model: &Decoder) -> (Option<char>, Option<char>, usize)
     (first, last, walk.len())
 }
 
-/// The index of the row that the probe of the quantile 20 begins with, and how far after it the counted search finds the row.
+/// The index of the row that the probe of the quantile 20 begins with, and how far after it the
+/// counted search finds the row.
 fn index_of_20(model: &Weighted<6>) -> (usize, usize)
-    ensures { IsRowIndexOf (⟦<Weighted<6> as EntropyModel<6>>⟧.rows model.now) 20 (result.0 + result.1) }
+    ensures { IsRowIndexOf (⟦<Weighted<6> as EntropyModel<6>>⟧.rows model.now) 20
+        (result.0 + result.1) }
 {
     let (first, mut rows) = model.quantile_probe(20);
     (first, row_of_quantile(&mut rows, 20))
@@ -212,7 +221,8 @@ fn index_of_20(model: &Weighted<6>) -> (usize, usize)
 
 /// The index of the row that the probe begins with, and how many rows it has: all four.
 fn rows_in_question(model: &Weighted<6>) -> (usize, usize)
-    requires { ⟦<Weighted<6> as EntropyModel<6>>⟧.rows model.now ≡ contiguous_rows (3 ∷ 18 ∷ 1 ∷ 42 ∷ []) }
+    requires { ⟦<Weighted<6> as EntropyModel<6>>⟧.rows model.now
+        ≡ contiguous_rows (3 ∷ 18 ∷ 1 ∷ 42 ∷ []) }
     ensures { result ≡ (0, 4) }
 {
     let (first, rows) = model.quantile_probe(20);
@@ -241,8 +251,8 @@ fn last_quantile() -> u8
     u8::greatest_of_bits(6)
 }
 
-/// The decoder of four letters. If it is made, it has the rows of the letters and their weights, and these are accepted.
-/// `InvalidTable` comes only if they are not.
+/// The decoder of four letters. If it is made, it has the rows of the letters and their weights,
+/// and these are accepted. `InvalidTable` comes only if they are not.
 pub fn decoder_of(
     alloc: Global,
     symbols: [char; 4],
@@ -250,9 +260,10 @@ pub fn decoder_of(
 ) -> Result<Decoder, ModelError>
     ensures rows { IfOk result (λ m. ⟦<Decoder as EntropyModel<6>>⟧.rows m
         ≡ rows_of symbols (map ⟦<u8 as WholeNumber>⟧.whole weights)) }
-    ensures accepted { IfOk result (λ _. AreAccepted ⟦<char as PartialEq>⟧.eq 8 6 symbols (map ⟦<u8 as WholeNumber>⟧.whole weights)) }
-    ensures invalid { result ≡ Err ModelError.InvalidTable
-        → ¬ (AreAccepted ⟦<char as PartialEq>⟧.eq 8 6 symbols (map ⟦<u8 as WholeNumber>⟧.whole weights)) }
+    ensures accepted { IfOk result (λ _. AreAccepted ⟦<char as PartialEq>⟧.eq 8 6 symbols
+        (map ⟦<u8 as WholeNumber>⟧.whole weights)) }
+    ensures invalid { result ≡ Err ModelError.InvalidTable → ¬ (AreAccepted ⟦<char as PartialEq>⟧.eq
+        8 6 symbols (map ⟦<u8 as WholeNumber>⟧.whole weights)) }
 {
     Decoder::from_symbols_and_nonzero_fixed_point_probabilities(alloc, symbols, weights, false)
 }
@@ -261,8 +272,8 @@ pub fn decoder_of(
 fn lookup_of(alloc: Global, symbols: [char; 4], weights: [u8; 4]) -> Result<Tabled, ModelError>
     ensures rows { IfOk result (λ m. ⟦<Tabled as EntropyModel<6>>⟧.rows m
         ≡ rows_of symbols (map ⟦<u8 as WholeNumber>⟧.whole weights)) }
-    ensures invalid { result ≡ Err ModelError.InvalidTable
-        → ¬ (AreAccepted ⟦<char as PartialEq>⟧.eq 8 6 symbols (map ⟦<u8 as WholeNumber>⟧.whole weights)) }
+    ensures invalid { result ≡ Err ModelError.InvalidTable → ¬ (AreAccepted ⟦<char as PartialEq>⟧.eq
+        8 6 symbols (map ⟦<u8 as WholeNumber>⟧.whole weights)) }
 {
     Tabled::from_symbols_and_nonzero_fixed_point_probabilities(alloc, symbols, weights, false)
 }
@@ -283,7 +294,8 @@ fn of_a_wrapped_total(alloc: Global) -> Result<Weighted<6>, ModelError>
 
 /// Asserts that the contiguous model answers by its rows.
 fn leaves_one_answer(rt: &impl Abort, model: &Weighted<6>)
-    requires { ⟦<Weighted<6> as EntropyModel<6>>⟧.rows model.now ≡ contiguous_rows (3 ∷ 18 ∷ 1 ∷ 42 ∷ []) }
+    requires { ⟦<Weighted<6> as EntropyModel<6>>⟧.rows model.now
+        ≡ contiguous_rows (3 ∷ 18 ∷ 1 ∷ 42 ∷ []) }
 {
     same(rt, row_of_20(model), Ok((1, 3, 18)));
     same(rt, second_entry(model), Some((3, 18)));

@@ -19,8 +19,9 @@ pub type EncoderMadeOf<M, const PRECISION: usize> = NonContiguousCategoricalEnco
     PRECISION,
 >;
 
-/// The encoder model with the entries of any model that can be walked through: for each symbol that the walk gives, the
-/// entry of its last row. `OutOfMemory` comes if memory for the hash table or for a clone of a symbol is refused.
+/// The encoder model with the entries of any model that can be walked through: for each symbol that
+/// the walk gives, the entry of its last row. `OutOfMemory` comes if memory for the hash table or
+/// for a clone of a symbol is refused.
 ///
 /// One walk, and one hash a row.
 pub fn to_generic_encoder_model<M, const PRECISION: usize>(
@@ -30,7 +31,8 @@ pub fn to_generic_encoder_model<M, const PRECISION: usize>(
 where
     M: IterableEntropyModel<PRECISION>,
     M::Symbol: Hash + Eq + Drop,
-    ensures { IsMadeIfMemorySuffices (λ e. HoldsEntriesOf M.Symbol.eq M.stands_for (encoder_model_rows e) (M.rows model)) result }
+    ensures { IsMadeIfMemorySuffices (λ e.
+        HoldsEntriesOf M.Symbol.eq M.stands_for (encoder_model_rows e) (M.rows model)) result }
 {
     let table = table_walked::<_, _, _, _, PRECISION>(alloc, model.symbol_table())?;
     Ok(NonContiguousCategoricalEncoderModel { table })
@@ -46,7 +48,8 @@ impl<
     where
         M: IterableEntropyModel<PRECISION>
             + EntropyModel<PRECISION, Symbol = Symbol, Probability = Probability>,
-        ensures { IsMadeIfMemorySuffices (λ e. HoldsEntriesOf Symbol.eq M.stands_for (encoder_model_rows e) (M.rows model)) result }
+        ensures { IsMadeIfMemorySuffices (λ e.
+            HoldsEntriesOf Symbol.eq M.stands_for (encoder_model_rows e) (M.rows model)) result }
     {
         to_generic_encoder_model::<M, PRECISION>(alloc, model)
     }

@@ -31,8 +31,8 @@ impl<Word: Copy, Positive: Copy> Clone for Entry<Word, Positive> {
 
 impl<Word: Copy, Positive: Copy> Copy for Entry<Word, Positive> {}
 
-/// Puts a value at a symbol. `InvalidTable` comes only if an equal symbol has a value. That value is then
-/// lost, and the hash table is of no further use.
+/// Puts a value at a symbol. `InvalidTable` comes only if an equal symbol has a value. That value
+/// is then lost, and the hash table is of no further use.
 #[inline]
 fn insert_apart<Symbol: Hash + Eq + Drop, Value: Drop>(
     table: &mut HashMap<Symbol, Value>,
@@ -40,10 +40,11 @@ fn insert_apart<Symbol: Hash + Eq + Drop, Value: Drop>(
     value: Value,
 ) -> Result<(), ModelError>
     ensures unique { IsUnique Symbol.eq table.new }
-    ensures updates { IsOk result → (s : Symbol)
-        → get Symbol.eq table.new s ≡ cond (Symbol.eq symbol s) (Some value) (get Symbol.eq table.old s) }
+    ensures updates { IsOk result → (s : Symbol) → get Symbol.eq table.new s
+        ≡ cond (Symbol.eq symbol s) (Some value) (get Symbol.eq table.old s) }
     ensures apart { IsOk result → is_some (get Symbol.eq table.old symbol) ≡ false }
-    ensures repeated { result ≡ Err ModelError.InvalidTable → is_some (get Symbol.eq table.old symbol) ≡ true }
+    ensures repeated { result ≡ Err ModelError.InvalidTable
+        → is_some (get Symbol.eq table.old symbol) ≡ true }
 {
     let old = table.insert(symbol, value)?;
     if old.is_some() {

@@ -32,8 +32,8 @@ pub struct NonContiguousCategoricalEncoderModel<
     pub(crate) table: HashMap<Symbol, Entry<Probability, Weight<Probability>>>,
     ghost precise: { IsPrecision Probability.BITS PRECISION },
     ghost distinct: { IsDistinct Symbol.eq (keys_of table.entries) } by { Prim.hlevel props },
-    ghost within: { All (LiesWithin PRECISION) (rows_of_table
-        (λ e. (Probability.whole e.left, Probability.whole (Probability.base e.weight))) table.entries) },
+    ghost within: { All (LiesWithin PRECISION) (rows_of_table (λ e.
+        (Probability.whole e.left, Probability.whole (Probability.base e.weight))) table.entries) },
 }
 
 /// Over 24 bits of `u32`, for most uses.
@@ -99,11 +99,12 @@ impl<
         self.table.len()
     }
 
-    /// The model of these symbols and weights. They are accepted and refused as by the decoder's constructor of this name.
-    /// `OutOfMemory` comes if memory for the hash table is refused.
+    /// The model of these symbols and weights. They are accepted and refused as by the decoder's
+    /// constructor of this name. `OutOfMemory` comes if memory for the hash table is refused.
     ///
-    /// One pass over both, and one hash a symbol. If the symbols' iterator announces their number, memory is requested
-    /// before the first symbol and not again: the hash table has four allocations.
+    /// One pass over both, and one hash a symbol. If the symbols' iterator announces their number,
+    /// memory is requested before the first symbol and not again: the hash table has four
+    /// allocations.
     pub fn from_symbols_and_nonzero_fixed_point_probabilities<
         S: IntoIterator<Item = Symbol>,
         P: IntoIterator<Item = Probability>,
@@ -116,11 +117,14 @@ impl<
     where
         Symbol: Drop,
         requires precision { IsPrecision Probability.BITS PRECISION }
-        requires symbols_end { IsFiniteIterable S.into_iter_gives S.IntoIter.can_next S.IntoIter.remaining symbols }
-        requires probabilities_end { IsFiniteIterable P.into_iter_gives P.IntoIter.can_next P.IntoIter.remaining probabilities }
-        ensures { IsDecidedByBoth (AreAccepted Symbol.eq Probability.BITS PRECISION) (completed PRECISION infer_last_probability)
-            S.into_iter_gives S.IntoIter.next_gives symbols P.into_iter_gives P.IntoIter.next_gives probabilities
-            Probability.whole (λ m ss ws. AreHashedRowsOf Symbol.eq (encoder_model_rows m) ss ws) result }
+        requires symbols_end { IsFiniteIterable S.into_iter_gives S.IntoIter.can_next
+            S.IntoIter.remaining symbols }
+        requires probabilities_end { IsFiniteIterable P.into_iter_gives P.IntoIter.can_next
+            P.IntoIter.remaining probabilities }
+        ensures { IsDecidedByBoth (AreAccepted Symbol.eq Probability.BITS PRECISION)
+            (completed PRECISION infer_last_probability) S.into_iter_gives S.IntoIter.next_gives
+            symbols P.into_iter_gives P.IntoIter.next_gives probabilities Probability.whole
+            (λ m ss ws. AreHashedRowsOf Symbol.eq (encoder_model_rows m) ss ws) result }
     {
         let symbols = symbols.into_iter();
         let probabilities = probabilities.into_iter();
@@ -149,14 +153,18 @@ impl<Symbol: Hash + Eq + Clone, Probability: WholeNumber, const PRECISION: usize
     for NonContiguousCategoricalEncoderModel<Symbol, Probability, PRECISION> {
     ghost use Rattle.constriction_conversions.specs.EncoderRows.{encoder_model_rows};
 
-    ghost is_clone = { λ x y. StandForRows Symbol.is_clone (encoder_model_rows y) (encoder_model_rows x) };
+    ghost is_clone = { λ x y.
+        StandForRows Symbol.is_clone (encoder_model_rows y) (encoder_model_rows x) };
 
-    /// A copy of the model, with clones of the symbols. Its hash table comes from the allocator of this model's.
+    /// A copy of the model, with clones of the symbols. Its hash table comes from the allocator of
+    /// this model's.
     ///
-    /// A copy of the hash table and a clone of each symbol. The call fails if memory for one of these is refused.
+    /// A copy of the hash table and a clone of each symbol. The call fails if memory for one of
+    /// these is refused.
     fn clone(&self) -> Result<Self, AllocError> {
         let table = self.table.clone()?;
-        // The contract of this call says that no two keys of the clone are equal, whatever is known of clones.
+        // The contract of this call says that no two keys of the clone are equal, whatever is known
+        // of clones.
         let _len = table.len();
         Ok(Self { table })
     }

@@ -1,5 +1,5 @@
-//! Laws of symbol tables and of models over any symbols. Each is the contract of a function. The laws of symbol
-//! tables hold for each type that implements the trait, a caller's own too.
+//! Laws of symbol tables and of models over any symbols. Each is the contract of a function. The
+//! laws of symbol tables hold for each type that implements the trait, a caller's own too.
 
 ghost use Rattle.std.specs.Prelude.{◌≡◌, ◌++◌, ℕ, List, length, map};
 ghost use Rattle.std.specs.Iterator.{Yields, Drains};
@@ -16,51 +16,57 @@ use constriction_categorical::{
 use constriction_model::{DecoderModel, EntropyModel};
 use constriction_numbers::{IndexWord, WholeNumber};
 
-/// Steps of a symbol table give the first of the rows that are left, in order, and leave the others.
+/// Steps of a symbol table give the first of the rows that are left, in order, and leave the
+/// others.
 pub fn table_walks_rows<M: IterableEntropyModel<PRECISION>, const PRECISION: usize>()
-    ensures { (t : M.SymbolTable) (items : _) (u : M.SymbolTable) → Yields M.SymbolTable.next_gives t items u
-        → (rows : List (Row M.Symbol)) × (M.rows_left t ≡ rows ++ M.rows_left u)
+    ensures { (t : M.SymbolTable) (items : _) (u : M.SymbolTable) → Yields M.SymbolTable.next_gives
+        t items u → (rows : List (Row M.Symbol)) × (M.rows_left t ≡ rows ++ M.rows_left u)
         × AreRows M.stands_for M.may_refuse M.Probability.whole M.Probability.base items rows }
 {}
 
-/// A walk to the end of a symbol table gives all rows that were left, in order and each once: all rows of the model if the
-/// symbol table is fresh.
+/// A walk to the end of a symbol table gives all rows that were left, in order and each once: all
+/// rows of the model if the symbol table is fresh.
 pub fn table_gives_all_rows<M: IterableEntropyModel<PRECISION>, const PRECISION: usize>()
-    ensures { (t : M.SymbolTable) (items : _) → Drains M.SymbolTable.next_gives t items
-        → AreRows M.stands_for M.may_refuse M.Probability.whole M.Probability.base items (M.rows_left t) }
+    ensures { (t : M.SymbolTable) (items : _) → Drains M.SymbolTable.next_gives t items → AreRows
+        M.stands_for M.may_refuse M.Probability.whole M.Probability.base items (M.rows_left t) }
 {}
 
-/// A walk to the end of a symbol table gives as many items as rows were left, refusals counted: `support_size` of the model
-/// if the symbol table is fresh.
+/// A walk to the end of a symbol table gives as many items as rows were left, refusals counted:
+/// `support_size` of the model if the symbol table is fresh.
 pub fn table_length<M: IterableEntropyModel<PRECISION>, const PRECISION: usize>()
-    ensures { (t : M.SymbolTable) (items : _) → Drains M.SymbolTable.next_gives t items → length items ≡ length (M.rows_left t) }
+    ensures { (t : M.SymbolTable) (items : _) → Drains M.SymbolTable.next_gives t items
+        → length items ≡ length (M.rows_left t) }
 {}
 
-/// The row of a quantile is in the model's symbol table: in a walk to the end, an item or a refusal stands for the row, and
-/// no item that holds the quantile stands for another row. So a decoder may look quantiles up in a symbol table that was
-/// read before. If clones are the same values, it finds the very answer of [`DecoderModel::quantile_function`].
+/// The row of a quantile is in the model's symbol table: in a walk to the end, an item or a refusal
+/// stands for the row, and no item that holds the quantile stands for another row. So a decoder may
+/// look quantiles up in a symbol table that was read before. If clones are the same values, it
+/// finds the very answer of [`DecoderModel::quantile_function`].
 pub fn answers_are_in_table<M, const PRECISION: usize>()
 where
     M: DecoderModel<PRECISION> + IterableEntropyModel<PRECISION>,
-    ensures { (m : M) (t : M.SymbolTable) (items : _) (q : ℕ) (r : Row M.Symbol) → M.rows_left t ≡ M.rows m
-        → Drains M.SymbolTable.next_gives t items → IsRowOf (M.rows m) q r
-        → IsInTable M.IterableEntropyModel.stands_for M.IterableEntropyModel.may_refuse M.Probability.whole M.Probability.base items q r }
+    ensures { (m : M) (t : M.SymbolTable) (items : _) (q : ℕ) (r : Row M.Symbol)
+        → M.rows_left t ≡ M.rows m → Drains M.SymbolTable.next_gives t items
+        → IsRowOf (M.rows m) q r → IsInTable M.IterableEntropyModel.stands_for
+        M.IterableEntropyModel.may_refuse M.Probability.whole M.Probability.base items q r }
 {}
 
-/// If no two symbols of a model are equal, the constructors from symbols and weights, without inference, accept those of
-/// its symbol table, and these give its rows again. So a symbol table can be stored as its symbols and weights, and a
-/// constructor that reads them answers a model of the same rows, or `OutOfMemory`.
+/// If no two symbols of a model are equal, the constructors from symbols and weights, without
+/// inference, accept those of its symbol table, and these give its rows again. So a symbol table
+/// can be stored as its symbols and weights, and a constructor that reads them answers a model of
+/// the same rows, or `OutOfMemory`.
 pub fn symbols_and_weights_rebuild<M, const PRECISION: usize>()
 where
     M: IterableEntropyModel<PRECISION>,
     M::Symbol: Eq,
-    ensures { (m : M) → IsDistinct M.Symbol.eq (symbols_of (M.rows m))
-        → AreAccepted M.Symbol.eq M.Probability.BITS PRECISION (symbols_of (M.rows m)) (map (λ r. r.weight) (M.rows m))
+    ensures { (m : M) → IsDistinct M.Symbol.eq (symbols_of (M.rows m)) → AreAccepted M.Symbol.eq
+        M.Probability.BITS PRECISION (symbols_of (M.rows m)) (map (λ r. r.weight) (M.rows m))
         × (rows_of (symbols_of (M.rows m)) (map (λ r. r.weight) (M.rows m)) ≡ M.rows m) }
 {}
 
-/// No two symbols of a decoder over any symbols are equal, however it was made. So a hashed encoder that is made of it has
-/// the entry of each of its rows, and [`pairs_are_quantiles`](constriction_model::laws::pairs_are_quantiles) applies.
+/// No two symbols of a decoder over any symbols are equal, however it was made. So a hashed encoder
+/// that is made of it has the entry of each of its rows, and
+/// [`pairs_are_quantiles`](constriction_model::laws::pairs_are_quantiles) applies.
 pub fn non_contiguous_symbols_differ<Symbol, Probability, Cdf, const PRECISION: usize>()
 where
     Symbol: Eq,

@@ -1,6 +1,7 @@
 //! Encoders that hash, of given weights or of any model that can be walked through.
 //!
-//! The encoder of any symbols finds the entry of a symbol by its hash. The laws of symbol tables say what a walk gives.
+//! The encoder of any symbols finds the entry of a symbol by its hash. The laws of symbol tables
+//! say what a walk gives.
 #![tactic(auto)]
 
 mod convert;

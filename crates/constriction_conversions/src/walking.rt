@@ -28,8 +28,9 @@ where
     requires ends { IsFinite (Walk.remaining walk) }
     ensures unique { IfOk result (λ t. IsUnique Symbol.eq t) }
     ensures found { IfOk result (λ t. WalkedGood Walk.next_gives walk (λ xs.
-        (whole : Word → ℕ) (base : Positive → Word) → HoldsEntries Symbol.eq
-        (λ e. (whole e.left, whole (base e.weight))) (get Symbol.eq t) (map (row_of whole base) xs))) }
+        (whole : Word → ℕ) (base : Positive → Word)
+        → HoldsEntries Symbol.eq (λ e. (whole e.left, whole (base e.weight))) (get Symbol.eq t)
+        (map (row_of whole base) xs))) }
 {
     let mut table = HashMap::with_capacity(alloc, rows_announced::<PRECISION>(walk.size_hint().0))?;
     'rows: while let Some(row) = walk.next() {

@@ -1,4 +1,5 @@
-//! How many questions a search asks. The contracts of `quantile_probe` and `row_of_quantile` say it.
+//! How many questions a search asks. The contracts of `quantile_probe` and `row_of_quantile` say
+//! it.
 
 ghost use Rattle.std.specs.Prelude.{◌≡◌, ◌+◌, ◌<◌, ◌≤◌, [], ◌∷◌};
 ghost use Rattle.constriction.specs.Probe.{digits, IsRowIndexOf};
@@ -14,12 +15,14 @@ use constriction_test_support::given::of_four;
 /// A lookup model with four slots of 16 quantiles each.
 type Tabled = SlottedContiguousLookupDecoderModel<u8, Vec<u8>, Vec<u8>, 6, 2>;
 
-/// A search of all four rows: the index of the first one, how many rows after it the quantile's row stands, and how many
-/// questions were asked.
+/// A search of all four rows: the index of the first one, how many rows after it the quantile's row
+/// stands, and how many questions were asked.
 fn by_a_search(model: &Weighted<6>, quantile: u8) -> (usize, usize, usize)
-    requires four { ⟦<Weighted<6> as EntropyModel<6>>⟧.rows model.now ≡ contiguous_rows (3 ∷ 18 ∷ 1 ∷ 42 ∷ []) }
+    requires four { ⟦<Weighted<6> as EntropyModel<6>>⟧.rows model.now
+        ≡ contiguous_rows (3 ∷ 18 ∷ 1 ∷ 42 ∷ []) }
     requires in_range { quantile < 64 }
-    ensures row { IsRowIndexOf (contiguous_rows (3 ∷ 18 ∷ 1 ∷ 42 ∷ [])) quantile (result.0 + result.1) }
+    ensures row { IsRowIndexOf (contiguous_rows (3 ∷ 18 ∷ 1 ∷ 42 ∷ [])) quantile
+        (result.0 + result.1) }
     ensures few { result.2 ≤ digits 3 }
 {
     let (first, mut rows) = model.quantile_probe(quantile);
@@ -29,9 +32,11 @@ fn by_a_search(model: &Weighted<6>, quantile: u8) -> (usize, usize, usize)
 
 /// The same for a search of the rows that meet the quantile's slot.
 fn by_a_lookup_table(model: &Tabled, quantile: u8) -> (usize, usize, usize)
-    requires four { ⟦<Tabled as EntropyModel<6>>⟧.rows model.now ≡ contiguous_rows (3 ∷ 18 ∷ 1 ∷ 42 ∷ []) }
+    requires four { ⟦<Tabled as EntropyModel<6>>⟧.rows model.now
+        ≡ contiguous_rows (3 ∷ 18 ∷ 1 ∷ 42 ∷ []) }
     requires in_range { quantile < 64 }
-    ensures row { IsRowIndexOf (contiguous_rows (3 ∷ 18 ∷ 1 ∷ 42 ∷ [])) quantile (result.0 + result.1) }
+    ensures row { IsRowIndexOf (contiguous_rows (3 ∷ 18 ∷ 1 ∷ 42 ∷ [])) quantile
+        (result.0 + result.1) }
     ensures few { result.2 ≤ digits 3 }
 {
     let (first, mut rows) = model.quantile_probe(quantile);
@@ -39,8 +44,8 @@ fn by_a_lookup_table(model: &Tabled, quantile: u8) -> (usize, usize, usize)
     (first, index, rows.asked())
 }
 
-/// A search of four rows asks two questions. Two rows meet the slot of the quantile 5, three the slot of 20, and one the
-/// slot of 40.
+/// A search of four rows asks two questions. Two rows meet the slot of the quantile 5, three the
+/// slot of 20, and one the slot of 40.
 #[test]
 fn a_search_asks_of_all_rows_and_beside_a_lookup_table_of_those_of_a_slot(rt: HostRuntime) {
     let model = of_four(rt.alloc(), [3, 18, 1, 42]).expect(&rt, "accepted");

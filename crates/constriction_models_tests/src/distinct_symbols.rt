@@ -67,7 +67,8 @@ fn letters_differ(model: &Decoder<6>)
     non_contiguous_symbols_differ::<char, u8, Vec<(u8, char)>, 6>();
 }
 
-/// A decoder model with the rows of another one. Symbols and weights of a decoder model are always accepted.
+/// A decoder model with the rows of another one. Symbols and weights of a decoder model are always
+/// accepted.
 #[tactic(auto, using(crate::proofs::DistinctLemmas::same_are_equal))]
 fn again(alloc: Global, model: &Decoder<6>) -> Result<Decoder<6>, ModelError> {
     letters_differ(model);
@@ -117,8 +118,8 @@ fn refused_encoder(alloc: Global) -> Option<ModelError> {
     made.err()
 }
 
-/// The constructors ask for no more memory than the longest accepted list needs, so 2^60 symbols are refused as invalid. Memory
-/// for all announced symbols would be refused.
+/// The constructors ask for no more memory than the longest accepted list needs, so 2^60 symbols
+/// are refused as invalid. Memory for all announced symbols would be refused.
 #[test]
 fn an_announced_number_of_symbols_takes_no_memory_that_accepted_ones_would_not(rt: HostRuntime) {
     let invalid = Some(ModelError::InvalidTable);

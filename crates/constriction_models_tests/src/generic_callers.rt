@@ -18,8 +18,8 @@ where
     D: DecoderModel<PRECISION, Probability = Word>,
     D::Symbol: Drop,
     requires in_range { Word.whole quantile < 2 ^ PRECISION }
-    ensures { IfOk result (λ end. (row : Row D.Symbol) × IsRowOf (D.rows model.now) (Word.whole quantile) row
-        × (Word.whole end ≡ (row.left + row.weight) % 2 ^ Word.BITS)) }
+    ensures { IfOk result (λ end. (row : Row D.Symbol) × IsRowOf (D.rows model.now)
+        (Word.whole quantile) row × (Word.whole end ≡ (row.left + row.weight) % 2 ^ Word.BITS)) }
 {
     let (_symbol, left, weight) = model.quantile_function(quantile)?;
     Ok(left.wrapping_add(&weight.get()))

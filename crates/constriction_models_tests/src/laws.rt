@@ -1,5 +1,5 @@
-//! What the laws of models give a caller, over the contiguous model, and over a model of the caller's own with its own symbol
-//! table.
+//! What the laws of models give a caller, over the contiguous model, and over a model of the
+//! caller's own with its own symbol table.
 
 ghost use Rattle.std.specs.Prelude.{◌≡◌, ◌↔◌, ◌<◌, ◌≤◌, ◌^◌, ◌-◌, ℕ, [], ◌∷◌, length, map, drop, IfOk};
 ghost use Rattle.std.specs.Iterator.{at_most};
@@ -53,8 +53,8 @@ where
     model.symbol_table().count()
 }
 
-/// How many items the symbol table of letters has, and how many letters the model has. The two are equal even if a letter fails
-/// to clone.
+/// How many items the symbol table of letters has, and how many letters the model has. The two are
+/// equal even if a letter fails to clone.
 fn items_and_letters(model: &LetterDecoder) -> (usize, usize)
     ensures { result.0 ≡ result.1 }
 {
@@ -67,7 +67,8 @@ fn read_rows<M>(alloc: Global, model: M) -> Result<Rows, AllocError>
 where
     M: IterableEntropyModel<6, Symbol = char, Probability = u8>,
     requires clones { ClonesAreSame M.stands_for }
-    ensures { IfOk result (λ rows. map (row_of ⟦<u8 as WholeNumber>⟧.whole ⟦<u8 as WholeNumber>⟧.base) rows.items ≡ M.rows model) }
+    ensures { IfOk result (λ rows. map
+        (row_of ⟦<u8 as WholeNumber>⟧.whole ⟦<u8 as WholeNumber>⟧.base) rows.items ≡ M.rows model) }
 {
     table_gives_all_rows::<M, 6>();
     let mut rows = Vec::new(alloc);
@@ -80,7 +81,8 @@ where
 /// What [`read_rows`] returns.
 type Rows = Vec<(char, u8, Weight<u8>)>;
 
-/// The rows of two models that answer alike, each read from its own symbol table. They are the same.
+/// The rows of two models that answer alike, each read from its own symbol table. They are the
+/// same.
 fn read_both<M, N>(alloc: Global, model: M, other: N) -> Result<(Rows, Rows), AllocError>
 where
     M: DecoderModel<6> + IterableEntropyModel<6> + EntropyModel<6, Symbol = char, Probability = u8>,
@@ -90,9 +92,10 @@ where
         + Drop,
     requires clones { ClonesAreSame M.IterableEntropyModel.stands_for }
     requires other_clones { ClonesAreSame N.IterableEntropyModel.stands_for }
-    requires alike { (q : ℕ) (r : Row ℕ) → q < 2 ^ 6 → IsRowOf (M.rows model) q r ↔ IsRowOf (N.rows other) q r }
-    ensures { IfOk result (λ t. map (row_of ⟦<u8 as WholeNumber>⟧.whole ⟦<u8 as WholeNumber>⟧.base) t.0.items
-        ≡ map (row_of ⟦<u8 as WholeNumber>⟧.whole ⟦<u8 as WholeNumber>⟧.base) t.1.items) }
+    requires alike { (q : ℕ) (r : Row ℕ) → q < 2 ^ 6
+        → IsRowOf (M.rows model) q r ↔ IsRowOf (N.rows other) q r }
+    ensures { IfOk result (λ t. map (row_of ⟦<u8 as WholeNumber>⟧.whole ⟦<u8 as WholeNumber>⟧.base)
+        t.0.items ≡ map (row_of ⟦<u8 as WholeNumber>⟧.whole ⟦<u8 as WholeNumber>⟧.base) t.1.items) }
 {
     equal_answers::<M, N, 6>();
     match (read_rows(alloc, model), read_rows(alloc, other)) {
@@ -101,7 +104,8 @@ where
     }
 }
 
-/// A model of the caller's own with two rows of one letter: `a` has the quantiles below 32, and again those from 32 on.
+/// A model of the caller's own with two rows of one letter: `a` has the quantiles below 32, and
+/// again those from 32 on.
 #[derive(Clone, Copy)]
 struct Twice;
 
@@ -138,8 +142,8 @@ struct TwiceSymbolTable {
 impl Iterator for TwiceSymbolTable {
     type Item = Result<(char, u8, Weight<u8>), AllocError>;
 
-    ghost next_gives = { YieldsRow (λ s t. t ≡ s) (λ _. ⊥) ⟦<u8 as WholeNumber>⟧.whole ⟦<u8 as WholeNumber>⟧.base
-        (λ t. drop t.next (rows_of (97 ∷ 97 ∷ []) (32 ∷ 32 ∷ []))) };
+    ghost next_gives = { YieldsRow (λ s t. t ≡ s) (λ _. ⊥) ⟦<u8 as WholeNumber>⟧.whole
+        ⟦<u8 as WholeNumber>⟧.base (λ t. drop t.next (rows_of (97 ∷ 97 ∷ []) (32 ∷ 32 ∷ []))) };
 
     ghost remaining = { λ t. at_most (2 - t.next) };
 

@@ -1,5 +1,5 @@
-//! The model of a caller's own in `constriction_test_support`: its answers to symbols, and what the caller knows of models that
-//! are made from it.
+//! The model of a caller's own in `constriction_test_support`: its answers to symbols, and what the
+//! caller knows of models that are made from it.
 
 ghost use Rattle.std.specs.Prelude.{◌≡◌, ◌∷◌, [], IfOk, IsErr, nat_eq};
 ghost use Rattle.std.specs.List.{IsDistinct};
@@ -17,8 +17,8 @@ use constriction_test_support::own_model::{Triple, three};
 use std::alloc::Global;
 use std::process::Abort;
 
-/// The decoder model of three letters. It has exactly their rows, and is not made if the first letter and the third are the
-/// same.
+/// The decoder model of three letters. It has exactly their rows, and is not made if the first
+/// letter and the third are the same.
 fn decoder_of(alloc: Global, model: &Triple) -> Result<Decoder<char, 3>, ModelError>
     ensures ok { IfOk result (λ d. ⟦<Decoder<char, 3> as EntropyModel<3>>⟧.rows d
         ≡ rows_of (model.now.first ∷ model.now.second ∷ model.now.third ∷ []) (2 ∷ 5 ∷ 1 ∷ [])) }
@@ -29,13 +29,14 @@ fn decoder_of(alloc: Global, model: &Triple) -> Result<Decoder<char, 3>, ModelEr
 
 /// No two letters of a decoder model are equal.
 fn letters_differ(model: &Decoder<char, 3>)
-    ensures { IsDistinct nat_eq (symbols_of (⟦<Decoder<char, 3> as EntropyModel<3>>⟧.rows model.now)) }
+    ensures { IsDistinct nat_eq
+        (symbols_of (⟦<Decoder<char, 3> as EntropyModel<3>>⟧.rows model.now)) }
 {
     non_contiguous_symbols_differ::<char, u8, Vec<(u8, char)>, 3>();
 }
 
-/// The decoder model of three letters, made without comparing them. They are known to differ, because a decoder model that
-/// compares them is made first.
+/// The decoder model of three letters, made without comparing them. They are known to differ,
+/// because a decoder model that compares them is made first.
 #[tactic(auto, using(crate::proofs::DistinctLemmas::same_are_equal))]
 fn decoder_of_distinct(alloc: Global, model: &Triple) -> Result<Decoder<char, 3>, ModelError> {
     letters_differ(&decoder_of(alloc, model)?);
@@ -58,7 +59,8 @@ fn have_entries(rt: &impl Abort, model: &Triple, made: &Encoder<3>) {
     }
 }
 
-/// The errors of the functions that make a decoder and an encoder model of three letters, and then those of the methods.
+/// The errors of the functions that make a decoder and an encoder model of three letters, and then
+/// those of the methods.
 fn refusals(alloc: Global, source: &Triple) -> [Option<ModelError>; 4] {
     [
         to_generic_decoder_model(alloc, source).err(),

@@ -108,8 +108,9 @@ impl WholeNumber for Share {
 
     ghost weight_law = { λ x. x.positive };
 
-    ghost same_weight_law = { λ a b e. same-above-0 (λ n h. record { share = record { 0 = n }; positive = h })
-        a.positive b.positive (ap (λ s. s.0) e) };
+    ghost same_weight_law = { λ a b e.
+        same-above-0 (λ n h. record { share = record { 0 = n }; positive = h }) a.positive
+        b.positive (ap (λ s. s.0) e) };
 }
 
 /// A model over shares.

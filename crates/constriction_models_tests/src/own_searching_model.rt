@@ -1,4 +1,5 @@
-//! A model of the caller's own with a lookup table: how often a look-up reads where a row begins, and what it asks of the model.
+//! A model of the caller's own with a lookup table: how often a look-up reads where a row begins,
+//! and what it asks of the model.
 
 use crate::checks::{same, same_at};
 use crate::watched_symbols::{Decoder, sixteen};
@@ -26,8 +27,8 @@ impl CdfEntry<(u16, Watched)> for Counted {
     }
 }
 
-/// What a model was asked: how often for the row of a quantile, and how many words after the slots of its lookup table it was
-/// handed with a question for a row.
+/// What a model was asked: how often for the row of a quantile, and how many words after the slots
+/// of its lookup table it was handed with a question for a row.
 #[derive(Drop)]
 struct Asked {
     searches: Cell<usize>,
@@ -139,9 +140,10 @@ type Tabled<'c, const SLOT_BITS: usize> = LookupDecoderModel<
 /// A quantile, the number of its row, and how often a look-up reads where a row begins.
 type Case = (u16, u32, usize);
 
-/// Asserts that a lookup model of sixteen rows, with `2^SLOT_BITS` slots, answers these quantiles, and reads as often as stated.
-/// Making it takes two passes over the rows, and the first pass leaves out the first row. A look-up hands the model the words
-/// after the slots, one for each row and one more, and never asks it to search.
+/// Asserts that a lookup model of sixteen rows, with `2^SLOT_BITS` slots, answers these quantiles,
+/// and reads as often as stated. Making it takes two passes over the rows, and the first pass
+/// leaves out the first row. A look-up hands the model the words after the slots, one for each row
+/// and one more, and never asks it to search.
 fn looks_up<const SLOT_BITS: usize>(rt: &impl Abort, alloc: Global, cases: &[Case]) {
     let tally = tally(alloc).expect(rt, "memory");
     let asked = Asked {

@@ -1,4 +1,5 @@
-//! Contiguous models that get other weights, and models over a cdf of the caller. No caller here has a written answer.
+//! Contiguous models that get other weights, and models over a cdf of the caller. No caller here
+//! has a written answer.
 
 ghost use Rattle.std.specs.Prelude.{◌≡◌, ◌^◌, ◌<◌, ℕ, List, IfSome, IsSomeAnd, IsTrue, false, length};
 ghost use Rattle.constriction.specs.Acceptance.{IsAccepted};
@@ -23,7 +24,8 @@ fn reweigh(model: &mut Small, weights: &[u8]) -> bool
     ensures accepted { IsTrue result → IsAccepted 8 6 weights.now }
     ensures rows { IsTrue result → contiguous_model_rows model.new ≡ contiguous_rows weights.now }
     ensures invalid { result ≡ false → ¬ (IsAccepted 8 6 weights.now) }
-    ensures refused { result ≡ false → contiguous_model_rows model.new ≡ contiguous_model_rows model.old }
+    ensures refused { result ≡ false
+        → contiguous_model_rows model.new ≡ contiguous_model_rows model.old }
 {
     match model.set_weights(weights, false) {
         Ok(()) => true,
@@ -46,7 +48,8 @@ fn symbol_of(model: &Small, quantile: u8) -> usize
 /// The model over a cdf, or none if it is a cdf of no weights.
 fn over<'c, const PRECISION: usize>(cdf: &'c [u8]) -> Option<Over<'c, PRECISION>>
     requires { IsPrecision 8 PRECISION }
-    ensures accepted { IfSome result (λ _. (weights : List ℕ) × IsCdfOfWeights 8 PRECISION weights cdf.now) }
+    ensures accepted { IfSome result (λ _. (weights : List ℕ)
+        × IsCdfOfWeights 8 PRECISION weights cdf.now) }
     ensures rows { (weights : List ℕ) → IsCdfOfWeights 8 PRECISION weights cdf.now
         → IsSomeAnd result (λ model. contiguous_model_rows model ≡ contiguous_rows weights) }
 {

@@ -16,7 +16,8 @@ use constriction_words::{NonZeroBitArray, WholeNumber};
 use std::cell::Cell;
 use std::iter;
 
-/// A probe of the caller's own that computes its cumulatives, the even numbers from 0 on. The count of its questions outlives it.
+/// A probe of the caller's own that computes its cumulatives, the even numbers from 0 on. The count
+/// of its questions outlives it.
 #[derive(Drop)]
 struct Evens<'c> {
     size: usize,
@@ -80,7 +81,8 @@ fn searched<const FEW: usize>(size: usize, q: u16) -> (usize, usize)
     (row_in_probe::<_, FEW>(rows, q), questions.get())
 }
 
-/// How many even numbers a probe has, the word that is searched for, the index that is found, and how many questions that takes.
+/// How many even numbers a probe has, the word that is searched for, the index that is found, and
+/// how many questions that takes.
 const SEARCHES: [(usize, u16, usize, usize); 10] = [
     (1, 9, 0, 0),
     (2, 1, 0, 1),
@@ -129,8 +131,8 @@ fn a_probe_of_stored_entries_counts_its_questions(rt: HostRuntime) {
 
 type Wide = DefaultContiguousCategoricalEntropyModel;
 
-/// Whether the last of the four quantiles from `left` on has the row of this symbol, and the counted search finds that row by at
-/// most 22 questions.
+/// Whether the last of the four quantiles from `left` on has the row of this symbol, and the
+/// counted search finds that row by at most 22 questions.
 fn is_found(model: &Wide, symbol: usize, left: u32) -> bool
     requires { left + 3 < 2 ^ 24 }
 {
@@ -140,8 +142,9 @@ fn is_found(model: &Wide, symbol: usize, left: u32) -> bool
     answer == Some((symbol, left, 4)) && found == symbol && rows.asked() <= 22
 }
 
-/// The last quantile of each of 4,194,304 rows is looked up. A search of the probe finds its row by at most 22 questions. No
-/// clause says that a look-up searches too. If it went over the rows, these look-ups would not end within a minute.
+/// The last quantile of each of 4,194,304 rows is looked up. A search of the probe finds its row by
+/// at most 22 questions. No clause says that a look-up searches too. If it went over the rows,
+/// these look-ups would not end within a minute.
 #[test]
 fn a_look_up_does_not_go_over_all_rows(rt: HostRuntime) {
     let fours = iter::repeat_n(4u32, 4_194_304);
@@ -168,7 +171,8 @@ fn a_look_up_of_any_symbols_does_not_go_over_all_rows(rt: HostRuntime) {
     }
 }
 
-/// The encoder has 1,048,576 entries. If a look-up went over these, 1,048,576 look-ups would not end within a minute.
+/// The encoder has 1,048,576 entries. If a look-up went over these, 1,048,576 look-ups would not
+/// end within a minute.
 #[test]
 fn a_look_up_of_an_encoder_does_not_go_over_all_symbols(rt: HostRuntime) {
     let sixteens = iter::repeat_n(16u32, 1_048_576);

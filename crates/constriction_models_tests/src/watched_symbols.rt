@@ -1,4 +1,5 @@
-//! How often symbols are cloned, compared and hashed: by constructors, look-ups, walks and clones of models.
+//! How often symbols are cloned, compared and hashed: by constructors, look-ups, walks and clones
+//! of models.
 
 use crate::checks::{same, same_at};
 use constriction::stream::model::{
@@ -22,8 +23,8 @@ const WEIGHTS: [u16; 15] = [
     1, 1, 1, 1, 1, 11, 300, 300, 300, 300, 300, 300, 300, 300, 300,
 ];
 
-/// The model of the numbers from 0 to 15, in order. The first five have one quantile each, the sixth has the quantiles up
-/// to 15, and the seventh has those from 16 to 315.
+/// The model of the numbers from 0 to 15, in order. The first five have one quantile each, the
+/// sixth has the quantiles up to 15, and the seventh has those from 16 to 315.
 pub fn sixteen(rt: &impl Abort, alloc: Global, tally: &Tally) -> Decoder {
     let symbols = symbols(alloc, tally, 15, 15).expect(rt, "memory");
     of_sorted(alloc, symbols).expect(rt, "accepted")
@@ -156,8 +157,8 @@ fn are_looked_up(rt: &impl Abort, model: &Encoder, symbols: &[Watched]) {
     }
 }
 
-/// The constructor hashes each of 5,000 symbols once, with few comparisons. A look-up hashes once, and compares at most twice on
-/// average.
+/// The constructor hashes each of 5,000 symbols once, with few comparisons. A look-up hashes once,
+/// and compares at most twice on average.
 #[test]
 fn an_entry_is_found_among_5_000_without_comparing_all(rt: HostRuntime) {
     let tally = tally(rt.alloc()).expect(&rt, "memory");

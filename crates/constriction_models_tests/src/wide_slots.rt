@@ -1,5 +1,5 @@
-//! Lookup models with many rows in a slot: how many questions a search of these asks. Weights are refused before there is a
-//! lookup table.
+//! Lookup models with many rows in a slot: how many questions a search of these asks. Weights are
+//! refused before there is a lookup table.
 
 ghost use Rattle.std.specs.Prelude.{◌<◌, ◌^◌};
 
@@ -40,8 +40,8 @@ type AnySymbols = NonContiguousLookupDecoderModel<
     40,
 >;
 
-/// A search of the rows that meet the quantile's slot: the index of the row that it finds, how many rows it searches, and how
-/// many questions it asks.
+/// A search of the rows that meet the quantile's slot: the index of the row that it finds, how many
+/// rows it searches, and how many questions it asks.
 fn searched(model: &Narrow<12>, quantile: u16) -> (usize, usize, usize)
     requires { quantile < 2 ^ 12 }
 {
@@ -51,8 +51,8 @@ fn searched(model: &Narrow<12>, quantile: u16) -> (usize, usize, usize)
     (first.wrapping_add(index), size, rows.asked())
 }
 
-/// For a model of five weights: a quantile, the index of its row, how many rows meet its slot of 16 quantiles, and how many
-/// questions a search of these asks.
+/// For a model of five weights: a quantile, the index of its row, how many rows meet its slot of 16
+/// quantiles, and how many questions a search of these asks.
 const CASES: [(u16, usize, usize, usize); 4] = [
     (3, 3, 5, 3),
     (4, 4, 5, 3),
@@ -97,7 +97,8 @@ fn a_slot_of_one_quantile_is_not_searched(rt: HostRuntime) {
     }
 }
 
-/// Whether a quantile has a row of its own, and a search of its slot finds this row by at most 22 questions.
+/// Whether a quantile has a row of its own, and a search of its slot finds this row by at most 22
+/// questions.
 fn is_found(model: &Lookup<40>, quantile: usize) -> bool
     requires { quantile < 2 ^ 40 }
 {
@@ -109,9 +110,10 @@ fn is_found(model: &Lookup<40>, quantile: usize) -> bool
         && rows.asked() <= 22
 }
 
-/// The model has 4,194,303 rows of weight 1 in the first slot, and one row with all other quantiles. A search of the probe finds
-/// each row of weight 1 by at most 22 questions. No clause says that a look-up searches too. If it went over the rows, these
-/// 4,194,303 look-ups would not end within a minute.
+/// The model has 4,194,303 rows of weight 1 in the first slot, and one row with all other
+/// quantiles. A search of the probe finds each row of weight 1 by at most 22 questions. No clause
+/// says that a look-up searches too. If it went over the rows, these 4,194,303 look-ups would not
+/// end within a minute.
 #[test]
 fn a_slot_that_4_194_304_rows_meet_is_searched(rt: HostRuntime) {
     let ones = iter::repeat_n(1usize, 4_194_303);
@@ -142,7 +144,8 @@ fn a_slot_of_any_symbols_that_4_194_304_rows_meet_is_searched(rt: HostRuntime) {
     }
 }
 
-/// A lookup model with a slot for each of 2^60 quantiles. No machine has memory for its lookup table.
+/// A lookup model with a slot for each of 2^60 quantiles. No machine has memory for its lookup
+/// table.
 type Vast = SlottedContiguousLookupDecoderModel<usize, Vec<usize>, Vec<usize>, 60, 60>;
 
 /// The error of two weights.
@@ -150,8 +153,8 @@ fn refused_for(alloc: Global, weights: [usize; 2], infer_last: bool) -> Option<M
     Vast::from_nonzero_fixed_point_probabilities(alloc, weights, infer_last).err()
 }
 
-/// If weights are accepted, memory for the lookup table is refused. If the second weight is too large, the weights are refused
-/// before that memory is asked for.
+/// If weights are accepted, memory for the lookup table is refused. If the second weight is too
+/// large, the weights are refused before that memory is asked for.
 #[test]
 fn weights_are_refused_before_a_lookup_table_grows(rt: HostRuntime) {
     let accepted = refused_for(rt.alloc(), [1, (1 << 60) - 1], false);

@@ -16,7 +16,8 @@ fn symbol_in<'e, Word, Symbol>(entry: &'e (Word, Symbol)) -> &'e Symbol
     &entry.1
 }
 
-/// Whether no two symbols of the entries are equal. It hashes each symbol once, into a set of references.
+/// Whether no two symbols of the entries are equal. It hashes each symbol once, into a set of
+/// references.
 pub fn are_apart<Word, Symbol: Hash + Eq>(
     alloc: Global,
     entries: &[(Word, Symbol)],

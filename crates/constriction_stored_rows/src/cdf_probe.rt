@@ -61,7 +61,8 @@ impl<'c, Entry, Kind: CdfEntry<Entry>> CdfProbe<'c, Entry, Kind> {
     /// A probe of these entries, which was asked nothing yet.
     #[inline]
     pub fn new(entries: &'c [Entry]) -> Self
-        ensures cumulatives { ⟦<Self as Probe>⟧.cumulatives result ≡ map Kind.cumulative entries.now }
+        ensures cumulatives { ⟦<Self as Probe>⟧.cumulatives result
+            ≡ map Kind.cumulative entries.now }
         ensures fresh { ⟦<Self as Probe>⟧.questions result ≡ 0 }
     {
         Self {

@@ -14,15 +14,16 @@ use constriction_model::Weight;
 use constriction_numbers::WholeNumber;
 use std::alloc::AllocError;
 
-/// Two words beside the entries, by which the end of a row is computed without a choice. With one or two rows they are
-/// the ends of the first and the last row. With more rows the second word is 0, and the first is the last left
-/// cumulative minus the total, modulo `2^BITS`.
+/// Two words beside the entries, by which the end of a row is computed without a choice. With one
+/// or two rows they are the ends of the first and the last row. With more rows the second word is
+/// 0, and the first is the last left cumulative minus the total, modulo `2^BITS`.
 #[inline]
 pub fn end_words_of<Word: WholeNumber, Symbol, const PRECISION: usize>(
     entries: &[(Word, Symbol)],
 ) -> [Word; 2]
     requires { IsPrecision Word.BITS PRECISION }
-    ensures { AreEndWords Word.BITS PRECISION (map (λ x. Word.whole x.0) entries.now) (map Word.whole result) }
+    ensures { AreEndWords Word.BITS PRECISION (map (λ x. Word.whole x.0) entries.now)
+        (map Word.whole result) }
 {
     let total = Word::wrapping_pow2(PRECISION);
     let rows = entries.len();
@@ -35,17 +36,20 @@ pub fn end_words_of<Word: WholeNumber, Symbol, const PRECISION: usize>(
     [entries[rows - 1].0.wrapping_minus(total), Word::least()]
 }
 
-/// Where the row at `index` ends. With one or two rows this is an end word. With more rows it is the left cumulative of
-/// the next row minus the second end word, or the last row's own left cumulative minus the first end word.
+/// Where the row at `index` ends. With one or two rows this is an end word. With more rows it is
+/// the left cumulative of the next row minus the second end word, or the last row's own left
+/// cumulative minus the first end word.
 #[inline(always)]
 fn end_by_words<Word: WholeNumber, Symbol, const PRECISION: usize>(
     entries: &[(Word, Symbol)],
     end_words: &[Word],
     index: usize,
 ) -> Word
-    requires end_words { AreEndWords Word.BITS PRECISION (map (λ x. Word.whole x.0) entries.now) (map Word.whole end_words.now) }
+    requires end_words { AreEndWords Word.BITS PRECISION (map (λ x. Word.whole x.0) entries.now)
+        (map Word.whole end_words.now) }
     requires in_bounds { index < length entries.now }
-    ensures { Word.whole result ≡ end_at Word.BITS PRECISION (map (λ x. Word.whole x.0) entries.now) index }
+    ensures { Word.whole result
+        ≡ end_at Word.BITS PRECISION (map (λ x. Word.whole x.0) entries.now) index }
 {
     if entries.len() <= 2 {
         return end_words[index];
@@ -62,7 +66,8 @@ fn end_of_row<Word: WholeNumber, Symbol, const PRECISION: usize>(
 ) -> Word
     requires precision { IsPrecision Word.BITS PRECISION }
     requires in_bounds { index < length entries.now }
-    ensures { Word.whole result ≡ end_at Word.BITS PRECISION (map (λ x. Word.whole x.0) entries.now) index }
+    ensures { Word.whole result
+        ≡ end_at Word.BITS PRECISION (map (λ x. Word.whole x.0) entries.now) index }
 {
     if index + 1 < entries.len() {
         return entries[index + 1].0;
@@ -70,7 +75,8 @@ fn end_of_row<Word: WholeNumber, Symbol, const PRECISION: usize>(
     Word::wrapping_pow2(PRECISION)
 }
 
-/// The same out of line: its callers call it for a last row alone, or never, and a loop is shorter without it.
+/// The same out of line: its callers call it for a last row alone, or never, and a loop is shorter
+/// without it.
 #[inline(never)]
 fn end_out_of_line<Word: WholeNumber, Symbol, const PRECISION: usize>(
     entries: &[(Word, Symbol)],
@@ -78,13 +84,15 @@ fn end_out_of_line<Word: WholeNumber, Symbol, const PRECISION: usize>(
 ) -> Word
     requires precision { IsPrecision Word.BITS PRECISION }
     requires in_bounds { index < length entries.now }
-    ensures { Word.whole result ≡ end_at Word.BITS PRECISION (map (λ x. Word.whole x.0) entries.now) index }
+    ensures { Word.whole result
+        ≡ end_at Word.BITS PRECISION (map (λ x. Word.whole x.0) entries.now) index }
 {
     end_of_row::<Word, Symbol, PRECISION>(entries, index)
 }
 
-/// Where the row at `from` ends, in a walk up to `to`, or `None` at the end of the walk. While more than one row is left
-/// there is a next entry, so a loop makes one test for a row, and needs the total at its end alone.
+/// Where the row at `from` ends, in a walk up to `to`, or `None` at the end of the walk. While more
+/// than one row is left there is a next entry, so a loop makes one test for a row, and needs the
+/// total at its end alone.
 #[inline(always)]
 pub fn end_in_walk<Word: WholeNumber, Symbol, const PRECISION: usize>(
     entries: &[(Word, Symbol)],
@@ -95,8 +103,8 @@ pub fn end_in_walk<Word: WholeNumber, Symbol, const PRECISION: usize>(
     requires order { from ≤ to }
     requires in_bounds { to ≤ length entries.now }
     ensures none { IfNone result (from ≡ to) }
-    ensures some { IfSome result (λ end. (from < to)
-        × (Word.whole end ≡ end_at Word.BITS PRECISION (map (λ x. Word.whole x.0) entries.now) from)) }
+    ensures some { IfSome result (λ end. (from < to) × (Word.whole end
+        ≡ end_at Word.BITS PRECISION (map (λ x. Word.whole x.0) entries.now) from)) }
 {
     let rows = to - from;
     if rows > 1 {
@@ -116,9 +124,11 @@ fn end_in_cdf<Word: WholeNumber, Symbol, const PRECISION: usize>(
     index: usize,
 ) -> Word
     requires precision { IsPrecision Word.BITS PRECISION }
-    requires cdf { MayFollow Word.BITS PRECISION (map (λ x. Word.whole x.0) entries.now) (map Word.whole cdf.now) }
+    requires cdf { MayFollow Word.BITS PRECISION (map (λ x. Word.whole x.0) entries.now)
+        (map Word.whole cdf.now) }
     requires in_bounds { index < length entries.now }
-    ensures { Word.whole result ≡ end_at Word.BITS PRECISION (map (λ x. Word.whole x.0) entries.now) index }
+    ensures { Word.whole result
+        ≡ end_at Word.BITS PRECISION (map (λ x. Word.whole x.0) entries.now) index }
 {
     if cdf.is_empty() {
         return end_out_of_line::<Word, Symbol, PRECISION>(entries, index);
@@ -135,7 +145,8 @@ pub fn paired_row_ending_at<Word: WholeNumber, Symbol, const PRECISION: usize>(
 ) -> (Word, Weight<Word>)
     requires fits { PRECISION ≤ Word.BITS }
     requires stored { IsStored Word.BITS PRECISION (map (λ x. Word.whole x.0) entries.now) }
-    requires end { Word.whole end ≡ end_at Word.BITS PRECISION (map (λ x. Word.whole x.0) entries.now) index }
+    requires end { Word.whole end
+        ≡ end_at Word.BITS PRECISION (map (λ x. Word.whole x.0) entries.now) index }
     requires in_bounds { index < length entries.now }
     ensures left { Word.whole result.0 ≡ slice_index (map (λ x. Word.whole x.0) entries.now) index }
     ensures weight { Word.whole (Word.base result.1)
@@ -145,8 +156,8 @@ pub fn paired_row_ending_at<Word: WholeNumber, Symbol, const PRECISION: usize>(
     (left, end.wrapping_minus(left).to_weight())
 }
 
-/// The left cumulative and the weight of the row at `index`. A jump tests whether the row is the last one, which a walk
-/// backwards mispredicts once.
+/// The left cumulative and the weight of the row at `index`. A jump tests whether the row is the
+/// last one, which a walk backwards mispredicts once.
 #[inline]
 pub fn paired_row_at<Word: WholeNumber, Symbol, const PRECISION: usize>(
     entries: &[(Word, Symbol)],
@@ -172,7 +183,8 @@ fn cloned_row_ending_at<Word: WholeNumber, Symbol: Clone, const PRECISION: usize
 ) -> Result<(Symbol, Word, Weight<Word>), AllocError>
     requires fits { PRECISION ≤ Word.BITS }
     requires stored { IsStored Word.BITS PRECISION (map (λ x. Word.whole x.0) entries.now) }
-    requires end { Word.whole end ≡ end_at Word.BITS PRECISION (map (λ x. Word.whole x.0) entries.now) index }
+    requires end { Word.whole end
+        ≡ end_at Word.BITS PRECISION (map (λ x. Word.whole x.0) entries.now) index }
     requires in_bounds { index < length entries.now }
     ensures { IsClonedRow Symbol.is_clone Symbol.is_infallible Word.whole Word.base PRECISION
         (rows_paired Word.whole PRECISION entries.now) index result }
@@ -193,7 +205,8 @@ pub fn cloned_row_by_words<Word: WholeNumber, Symbol: Clone, const PRECISION: us
 ) -> Result<(Symbol, Word, Weight<Word>), AllocError>
     requires fits { PRECISION ≤ Word.BITS }
     requires stored { IsStored Word.BITS PRECISION (map (λ x. Word.whole x.0) entries.now) }
-    requires end_words { AreEndWords Word.BITS PRECISION (map (λ x. Word.whole x.0) entries.now) (map Word.whole end_words.now) }
+    requires end_words { AreEndWords Word.BITS PRECISION (map (λ x. Word.whole x.0) entries.now)
+        (map Word.whole end_words.now) }
     requires in_bounds { index < length entries.now }
     ensures { IsClonedRow Symbol.is_clone Symbol.is_infallible Word.whole Word.base PRECISION
         (rows_paired Word.whole PRECISION entries.now) index result }
@@ -202,8 +215,8 @@ pub fn cloned_row_by_words<Word: WholeNumber, Symbol: Clone, const PRECISION: us
     cloned_row_ending_at::<Word, Symbol, PRECISION>(entries, end, index)
 }
 
-/// The row at `index`, with a clone of its symbol. `cdf` has nothing, or the left cumulatives and the total, and then no
-/// row is tested for being the last one.
+/// The row at `index`, with a clone of its symbol. `cdf` has nothing, or the left cumulatives and
+/// the total, and then no row is tested for being the last one.
 #[inline]
 pub fn cloned_row_in_cdf<Word: WholeNumber, Symbol: Clone, const PRECISION: usize>(
     entries: &[(Word, Symbol)],
@@ -212,7 +225,8 @@ pub fn cloned_row_in_cdf<Word: WholeNumber, Symbol: Clone, const PRECISION: usiz
 ) -> Result<(Symbol, Word, Weight<Word>), AllocError>
     requires precision { IsPrecision Word.BITS PRECISION }
     requires stored { IsStored Word.BITS PRECISION (map (λ x. Word.whole x.0) entries.now) }
-    requires cdf { MayFollow Word.BITS PRECISION (map (λ x. Word.whole x.0) entries.now) (map Word.whole cdf.now) }
+    requires cdf { MayFollow Word.BITS PRECISION (map (λ x. Word.whole x.0) entries.now)
+        (map Word.whole cdf.now) }
     requires in_bounds { index < length entries.now }
     ensures { IsClonedRow Symbol.is_clone Symbol.is_infallible Word.whole Word.base PRECISION
         (rows_paired Word.whole PRECISION entries.now) index result }
@@ -221,7 +235,8 @@ pub fn cloned_row_in_cdf<Word: WholeNumber, Symbol: Clone, const PRECISION: usiz
     cloned_row_ending_at::<Word, Symbol, PRECISION>(entries, end, index)
 }
 
-/// The words, and after them the left cumulatives and the total. This fails only if memory is refused.
+/// The words, and after them the left cumulatives and the total. This fails only if memory is
+/// refused.
 pub fn with_cdf<Entry, Kind: CdfEntry<Entry>, const PRECISION: usize>(
     words: Vec<Kind::Word>,
     entries: &[Entry],

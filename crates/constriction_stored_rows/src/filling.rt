@@ -26,9 +26,9 @@ fn make_room<T: Drop>(items: &mut Vec<T>) -> Result<(), AllocError>
 
 /// The list with one more item.
 ///
-/// `make_room` borrows a full list under another name, so a loop that fills the list keeps its pointer, length and
-/// capacity in registers. If `make_room` took the list and returned it, the loop would clear memory for that result at
-/// each item.
+/// `make_room` borrows a full list under another name, so a loop that fills the list keeps its
+/// pointer, length and capacity in registers. If `make_room` took the list and returned it, the
+/// loop would clear memory for that result at each item.
 #[inline(always)]
 pub fn with_item<T: Drop>(mut items: Vec<T>, item: T) -> Result<Vec<T>, AllocError>
     ensures { IfOk result (λ v. v.items ≡ items.items ++ item ∷ []) }
@@ -42,24 +42,25 @@ pub fn with_item<T: Drop>(mut items: Vec<T>, item: T) -> Result<Vec<T>, AllocErr
     Ok(items)
 }
 
-/// Whether a row of this weight leaves some quantiles. `room` is the number of quantiles after the first one of the
-/// row, and `one` is the word 1.
+/// Whether a row of this weight leaves some quantiles. `room` is the number of quantiles after the
+/// first one of the row, and `one` is the word 1.
 ///
-/// One comparison separates these weights from all others: 0, the weight that fills the quantiles, and weights that
-/// exceed them.
+/// One comparison separates these weights from all others: 0, the weight that fills the quantiles,
+/// and weights that exceed them.
 #[inline(always)]
 pub(crate) fn leaves_some<Word: WholeNumber>(weight: Word, one: Word, room: Word) -> bool
     requires one { Word.whole one ≡ 1 }
     requires range { Word.whole room < 2 ^ Word.BITS }
     ensures some { IsTrue result → (0 < Word.whole weight) × (Word.whole weight ≤ Word.whole room) }
-    ensures none { result ≡ false → (Word.whole weight ≡ 0) ⊎ (Word.whole room < Word.whole weight) }
+    ensures none { result ≡ false
+        → (Word.whole weight ≡ 0) ⊎ (Word.whole room < Word.whole weight) }
 {
     let last = weight.wrapping_minus(one);
     last.is_below(room)
 }
 
-/// Whether the row of a given weight that leaves no quantiles is the last one: it is if the weight fills the quantiles,
-/// and no further one is inferred.
+/// Whether the row of a given weight that leaves no quantiles is the last one: it is if the weight
+/// fills the quantiles, and no further one is inferred.
 #[inline]
 pub(crate) fn fills_all<Word: WholeNumber>(
     weight: Word,
@@ -69,7 +70,8 @@ pub(crate) fn fills_all<Word: WholeNumber>(
 ) -> bool
     requires one { Word.whole one ≡ 1 }
     requires none_left { (Word.whole weight ≡ 0) ⊎ (Word.whole room < Word.whole weight) }
-    ensures filled { IsTrue result → FillsAll Word.BITS (Word.whole weight) (Word.whole room) infer_last }
+    ensures filled { IsTrue result
+        → FillsAll Word.BITS (Word.whole weight) (Word.whole room) infer_last }
     ensures bad { result ≡ false → IsNoLast (Word.whole weight) (Word.whole room) infer_last }
 {
     if infer_last {
@@ -82,7 +84,8 @@ pub(crate) fn fills_all<Word: WholeNumber>(
     last.is_at_most(room)
 }
 
-/// Whether the row that takes all quantiles left is the last one: it is if its weight is inferred, and is a word.
+/// Whether the row that takes all quantiles left is the last one: it is if its weight is inferred,
+/// and is a word.
 #[inline]
 pub(crate) fn is_inferred_last<Word: WholeNumber>(room: Word, infer_last: bool) -> bool
     requires { Word.whole room < 2 ^ Word.BITS }
@@ -95,7 +98,8 @@ pub(crate) fn is_inferred_last<Word: WholeNumber>(room: Word, infer_last: bool) 
     false
 }
 
-/// How many of the announced rows to request memory for at once: all, but no more than an accepted list can have.
+/// How many of the announced rows to request memory for at once: all, but no more than an accepted
+/// list can have.
 #[inline]
 #[tactic(auto, using(crate::proofs::AnnouncedLemmas::few_announced, crate::proofs::AnnouncedLemmas::all_announced))]
 pub fn rows_announced<const PRECISION: usize>(announced: usize) -> usize
@@ -106,8 +110,8 @@ pub fn rows_announced<const PRECISION: usize>(announced: usize) -> usize
     announced.min(1usize << PRECISION.min(62))
 }
 
-/// How many entries to request memory for at once: one for each announced row, up to the most that an accepted
-/// list can have, and one for the total.
+/// How many entries to request memory for at once: one for each announced row, up to the most that
+/// an accepted list can have, and one for the total.
 #[inline]
 pub fn entries_announced<const PRECISION: usize>(announced: usize) -> usize
     ensures all { announced ≤ 2 ^ min PRECISION 62 → result ≡ announced + 1 }
@@ -137,7 +141,8 @@ trait TakesLefts<Word>: Drop {
 
     /// The same with one more.
     fn with_left(self, left: Word) -> Result<Self, AllocError>
-        ensures held { IfOk result (λ t. (lefts : List Word) → holds self lefts → holds t (lefts ++ left ∷ [])) }
+        ensures held { IfOk result (λ t. (lefts : List Word) → holds self lefts
+            → holds t (lefts ++ left ∷ [])) }
         ensures refused { IsErr result → may_refuse };
 }
 
@@ -179,10 +184,11 @@ fn is_end_of_given<Word: WholeNumber, Weights: Iterator<Item = Word>>(
     requires one { Word.whole one ≡ 1 }
     requires none_left { (Word.whole weight ≡ 0) ⊎ (Word.whole room < Word.whole weight) }
     requires goes { Weights.can_next rest.old }
-    ensures filled { IsTrue result → FillsAll Word.BITS (Word.whole weight) (Word.whole room) infer_last
-        × Weights.next_gives rest.old None rest.new }
+    ensures filled { IsTrue result → FillsAll Word.BITS (Word.whole weight) (Word.whole room)
+        infer_last × Weights.next_gives rest.old None rest.new }
     ensures bad { result ≡ false → IsNoLast (Word.whole weight) (Word.whole room) infer_last
-        ⊎ ((Word.whole room < Word.whole weight) × (more : Word) × Weights.next_gives rest.old (Some more) rest.new) }
+        ⊎ ((Word.whole room < Word.whole weight) × (more : Word)
+        × Weights.next_gives rest.old (Some more) rest.new) }
 {
     if !fills_all(weight, one, room, infer_last) {
         return false;
@@ -202,8 +208,8 @@ fn lefts_taken<
     requires none { Taken.holds taken [] }
     requires goes { Weights.can_next rest.old }
     requires ends { IsFinite (Weights.remaining rest.old) }
-    ensures ok { IfOk result (λ t.
-        AreLeftsOf Weights.next_gives rest.old Word.whole Word.BITS PRECISION infer_last (Taken.holds t)) }
+    ensures ok { IfOk result (λ t. AreLeftsOf Weights.next_gives rest.old Word.whole Word.BITS
+        PRECISION infer_last (Taken.holds t)) }
     ensures invalid { result ≡ Err ModelError.InvalidTable
         → IsNoCdf Weights.next_gives rest.old Word.whole Word.BITS PRECISION infer_last }
     ensures memory { result ≡ Err ModelError.OutOfMemory → Taken.may_refuse }
@@ -241,7 +247,8 @@ fn fill_cdf<Word: WholeNumber, Weights: Iterator<Item = Word>, const PRECISION: 
     requires room { vec_capacity cdf ≤ 2 ^ PRECISION + 1 }
     requires goes { Weights.can_next rest.old }
     requires ends { IsFinite (Weights.remaining rest.old) }
-    ensures ok { IfOk result (λ v. IsCdfOf Weights.next_gives rest.old Word.whole Word.BITS PRECISION infer_last v.items) }
+    ensures ok { IfOk result (λ v.
+        IsCdfOf Weights.next_gives rest.old Word.whole Word.BITS PRECISION infer_last v.items) }
     ensures invalid { result ≡ Err ModelError.InvalidTable
         → IsNoCdf Weights.next_gives rest.old Word.whole Word.BITS PRECISION infer_last }
 {
@@ -256,10 +263,13 @@ pub fn cdf_of<Word: WholeNumber, Weights: IntoIterator<Item = Word>, const PRECI
     infer_last: bool,
 ) -> Result<Vec<Word>, ModelError>
     requires precision { IsPrecision Word.BITS PRECISION }
-    requires ends { IsFiniteIterable Weights.into_iter_gives Weights.IntoIter.can_next Weights.IntoIter.remaining weights }
+    requires ends { IsFiniteIterable Weights.into_iter_gives Weights.IntoIter.can_next
+        Weights.IntoIter.remaining weights }
     ensures ok { IfOk result (λ v. (it : Weights.IntoIter) × Weights.into_iter_gives weights it
-        × IsCdfOf Weights.IntoIter.next_gives it Word.whole Word.BITS PRECISION infer_last v.items) }
-    ensures invalid { result ≡ Err ModelError.InvalidTable → (it : Weights.IntoIter) × Weights.into_iter_gives weights it
+        × IsCdfOf Weights.IntoIter.next_gives it Word.whole Word.BITS PRECISION infer_last
+        v.items) }
+    ensures invalid { result ≡ Err ModelError.InvalidTable
+        → (it : Weights.IntoIter) × Weights.into_iter_gives weights it
         × IsNoCdf Weights.IntoIter.next_gives it Word.whole Word.BITS PRECISION infer_last }
 {
     let mut rest = weights.into_iter();
@@ -273,8 +283,10 @@ fn before_last<'w, Word: WholeNumber, const PRECISION: usize>(
     weights: &'w [Word],
     infer_last: bool,
 ) -> &'w [Word]
-    requires { IsAccepted Word.BITS PRECISION (completed PRECISION infer_last (map Word.whole weights.now)) }
-    ensures before { (last : ℕ) × (completed PRECISION infer_last (map Word.whole weights.now) ≡ map Word.whole result.now ++ last ∷ []) }
+    requires { IsAccepted Word.BITS PRECISION
+        (completed PRECISION infer_last (map Word.whole weights.now)) }
+    ensures before { (last : ℕ) × (completed PRECISION infer_last (map Word.whole weights.now)
+        ≡ map Word.whole result.now ++ last ∷ []) }
     ensures some_left { sum (map Word.whole result.now) < 2 ^ PRECISION }
 {
     if infer_last {
@@ -286,8 +298,8 @@ fn before_last<'w, Word: WholeNumber, const PRECISION: usize>(
     before
 }
 
-/// The cdf of the rows of these weights and of a last row, which takes the other quantiles. It is written over a cdf with
-/// room for it.
+/// The cdf of the rows of these weights and of a last row, which takes the other quantiles. It is
+/// written over a cdf with room for it.
 fn rewritten<Word: WholeNumber, const PRECISION: usize>(
     mut cdf: Vec<Word>,
     weights: &[Word],
@@ -295,7 +307,8 @@ fn rewritten<Word: WholeNumber, const PRECISION: usize>(
     requires precision { IsPrecision Word.BITS PRECISION }
     requires some_left { sum (map Word.whole weights.now) < 2 ^ PRECISION }
     requires room { length weights.now + 2 ≤ vec_capacity cdf }
-    ensures { map Word.whole result.items ≡ (lefts_from 0 (map Word.whole weights.now) ++ sum (map Word.whole weights.now) ∷ [])
+    ensures { map Word.whole result.items
+        ≡ (lefts_from 0 (map Word.whole weights.now) ++ sum (map Word.whole weights.now) ∷ [])
         ++ total_of Word.BITS PRECISION ∷ [] }
 {
     let mut left = Word::least();
@@ -311,21 +324,23 @@ fn rewritten<Word: WholeNumber, const PRECISION: usize>(
 
 /// Gives a cdf the rows of other weights. The last weight may be inferred.
 ///
-/// One pass over the weights judges them, and one writes. Memory is requested only if the cdf needs more than it has.
+/// One pass over the weights judges them, and one writes. Memory is requested only if the cdf needs
+/// more than it has.
 pub fn refill_cdf<Word: WholeNumber, const PRECISION: usize>(
     cdf: &mut Vec<Word>,
     weights: &[Word],
     infer_last: bool,
 ) -> Result<(), ModelError>
     requires { IsPrecision Word.BITS PRECISION }
-    ensures accepted { OnOk result (IsAccepted Word.BITS PRECISION (completed PRECISION infer_last (map Word.whole weights.now))) }
-    ensures ok { OnOk result (map Word.whole cdf.new.items
-        ≡ lefts_from 0 (completed PRECISION infer_last (map Word.whole weights.now)) ++ total_of Word.BITS PRECISION ∷ []) }
-    ensures invalid { result ≡ Err ModelError.InvalidTable
-        → ¬ (IsAccepted Word.BITS PRECISION (completed PRECISION infer_last (map Word.whole weights.now))) }
+    ensures accepted { OnOk result (IsAccepted Word.BITS PRECISION
+        (completed PRECISION infer_last (map Word.whole weights.now))) }
+    ensures ok { OnOk result (map Word.whole cdf.new.items ≡ lefts_from 0 (completed PRECISION
+        infer_last (map Word.whole weights.now)) ++ total_of Word.BITS PRECISION ∷ []) }
+    ensures invalid { result ≡ Err ModelError.InvalidTable → ¬ (IsAccepted Word.BITS PRECISION
+        (completed PRECISION infer_last (map Word.whole weights.now))) }
     // Memory is refused only if the new cdf is longer.
-    ensures memory { result ≡ Err ModelError.OutOfMemory
-        → vec_len cdf.old < length (completed PRECISION infer_last (map Word.whole weights.now)) + 1 }
+    ensures memory { result ≡ Err ModelError.OutOfMemory → vec_len cdf.old
+        < length (completed PRECISION infer_last (map Word.whole weights.now)) + 1 }
     ensures err { OnErr result (cdf.new.items ≡ cdf.old.items) }
 {
     let mut judged = weights.iter().copied();

@@ -41,7 +41,8 @@ fn is_total<Word: WholeNumber, const PRECISION: usize>(word: Word) -> bool
     word.is_at_most(total) && total.is_at_most(word)
 }
 
-/// Whether these words are a cdf: the left cumulatives of accepted weights, and after them the total. One pass.
+/// Whether these words are a cdf: the left cumulatives of accepted weights, and after them the
+/// total. One pass.
 pub fn is_cdf<Word: WholeNumber, const PRECISION: usize>(words: &[Word]) -> bool
     requires { IsPrecision Word.BITS PRECISION }
     ensures { IsTrue result ↔ IsCdf Word.BITS PRECISION (map Word.whole words.now) }

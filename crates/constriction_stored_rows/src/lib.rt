@@ -1,9 +1,9 @@
-//! How models of given weights store their rows: reading and judging weights and symbols, probes of the stored rows,
-//! the row at an index, and the rows that meet a slot.
+//! How models of given weights store their rows: reading and judging weights and symbols, probes of
+//! the stored rows, the row at an index, and the rows that meet a slot.
 //!
-//! Rows are stored as a plain list: a cdf, which is the left cumulatives and after them the total, or one pair of a left
-//! cumulative and a symbol for each row. The models of the crate above hold the list, and their ghost fields cite the
-//! definitions here.
+//! Rows are stored as a plain list: a cdf, which is the left cumulatives and after them the total,
+//! or one pair of a left cumulative and a symbol for each row. The models of the crate above hold
+//! the list, and their ghost fields cite the definitions here.
 #![tactic(auto)]
 
 mod apart;

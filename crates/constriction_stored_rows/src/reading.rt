@@ -21,11 +21,13 @@ pub trait TakesRows<Symbol, Word: WholeNumber> {
     // These rows are stored, and no others.
     ghost holds: { Self → List (Row Symbol) → Type 0 };
 
-    /// Stores one more row, unless a stored row has an equal symbol. `InvalidTable` comes only if one has.
+    /// Stores one more row, unless a stored row has an equal symbol. `InvalidTable` comes only if
+    /// one has.
     fn take_row(&mut self, symbol: Symbol, left: Word, weight: Word) -> Result<(), ModelError>
         requires positive { 0 < Word.whole weight }
         ensures held { IsOk result → (rows : List (Row Symbol)) → holds self.old rows
-            → holds self.new (rows ++ record { symbol = symbol; left = Word.whole left; weight = Word.whole weight } ∷ []) }
+            → holds self.new (rows ++ record
+            { symbol = symbol; left = Word.whole left; weight = Word.whole weight } ∷ []) }
         ensures apart { IsOk result → (rows : List (Row Symbol)) → holds self.old rows
             → list_any (symbol_eq symbol) (symbols_of rows) ≡ false }
         ensures repeated { result ≡ Err ModelError.InvalidTable → (rows : List (Row Symbol))
@@ -44,12 +46,12 @@ fn take_next<
 >(stored: &mut Stored, symbols: &mut Symbols, left: Word, weight: Word) -> Result<(), ModelError>
     requires positive { 0 < Word.whole weight }
     requires goes { Symbols.can_next symbols.old }
-    ensures took { IsOk result → TookRow Symbols.next_gives Stored.symbol_eq Stored.holds symbols.old stored.old
-        (Word.whole left) (Word.whole weight) symbols.new stored.new }
+    ensures took { IsOk result → TookRow Symbols.next_gives Stored.symbol_eq Stored.holds
+        symbols.old stored.old (Word.whole left) (Word.whole weight) symbols.new stored.new }
     ensures goes { IsOk result → IsFinite (Symbols.remaining symbols.old)
         → Symbols.can_next symbols.new × IsFinite (Symbols.remaining symbols.new) }
-    ensures refused { result ≡ Err ModelError.InvalidTable
-        → RefusedRow Symbols.next_gives Stored.symbol_eq Stored.holds symbols.old stored.old symbols.new }
+    ensures refused { result ≡ Err ModelError.InvalidTable → RefusedRow Symbols.next_gives
+        Stored.symbol_eq Stored.holds symbols.old stored.old symbols.new }
 {
     let Some(symbol) = symbols.next() else {
         return Err(ModelError::InvalidTable);
@@ -57,7 +59,8 @@ fn take_next<
     stored.take_row(symbol, left, weight)
 }
 
-/// Stores the row of a given weight that leaves no quantiles. The weight has to fill them and to be the last one.
+/// Stores the row of a given weight that leaves no quantiles. The weight has to fill them and to be
+/// the last one.
 #[inline(always)]
 fn take_given_last<
     Word: WholeNumber,
@@ -81,12 +84,12 @@ fn take_given_last<
     requires symbols_go { Symbols.can_next symbols.old }
     requires symbols_end { IsFinite (Symbols.remaining symbols.old) }
     requires weights_go { Weights.can_next weights.old }
-    ensures ok { IsOk result
-        → EndsWell Symbols.next_gives Weights.next_gives Stored.symbol_eq Stored.holds Word.whole Word.BITS PRECISION
-        infer_last stored.old symbols.old left (Word.whole room) (Some weight) weights.old stored.new }
-    ensures invalid { result ≡ Err ModelError.InvalidTable
-        → EndsBadly Symbols.next_gives Weights.next_gives Stored.symbol_eq Stored.holds Word.whole Word.BITS PRECISION
-        infer_last stored.old symbols.old left (Word.whole room) (Some weight) weights.old }
+    ensures ok { IsOk result → EndsWell Symbols.next_gives Weights.next_gives Stored.symbol_eq
+        Stored.holds Word.whole Word.BITS PRECISION infer_last stored.old symbols.old left
+        (Word.whole room) (Some weight) weights.old stored.new }
+    ensures invalid { result ≡ Err ModelError.InvalidTable → EndsBadly Symbols.next_gives
+        Weights.next_gives Stored.symbol_eq Stored.holds Word.whole Word.BITS PRECISION infer_last
+        stored.old symbols.old left (Word.whole room) (Some weight) weights.old }
 {
     if !fills_all(weight, one, room, infer_last) {
         return Err(ModelError::InvalidTable);
@@ -122,12 +125,12 @@ fn take_inferred_last<
     requires range { Word.whole room < 2 ^ Word.BITS }
     requires symbols_go { Symbols.can_next symbols.old }
     requires symbols_end { IsFinite (Symbols.remaining symbols.old) }
-    ensures ok { IsOk result → (end : Weights)
-        → EndsWell Symbols.next_gives Weights.next_gives Stored.symbol_eq Stored.holds Word.whole Word.BITS PRECISION
-        infer_last stored.old symbols.old left (Word.whole room) None end stored.new }
+    ensures ok { IsOk result → (end : Weights) → EndsWell Symbols.next_gives Weights.next_gives
+        Stored.symbol_eq Stored.holds Word.whole Word.BITS PRECISION infer_last stored.old
+        symbols.old left (Word.whole room) None end stored.new }
     ensures invalid { result ≡ Err ModelError.InvalidTable → (end : Weights)
-        → EndsBadly Symbols.next_gives Weights.next_gives Stored.symbol_eq Stored.holds Word.whole Word.BITS PRECISION
-        infer_last stored.old symbols.old left (Word.whole room) None end }
+        → EndsBadly Symbols.next_gives Weights.next_gives Stored.symbol_eq Stored.holds Word.whole
+        Word.BITS PRECISION infer_last stored.old symbols.old left (Word.whole room) None end }
 {
     if !is_inferred_last(room, infer_last) {
         return Err(ModelError::InvalidTable);
@@ -161,12 +164,11 @@ fn take_all<
     requires symbols_end { IsFinite (Symbols.remaining symbols.old) }
     requires weights_go { Weights.can_next weights.old }
     requires weights_end { IsFinite (Weights.remaining weights.old) }
-    ensures ok { IsOk result
-        → IsReadWell Symbols.next_gives Weights.next_gives Stored.symbol_eq Stored.holds Word.whole Word.BITS PRECISION
-        infer_last symbols.old weights.old stored.new }
+    ensures ok { IsOk result → IsReadWell Symbols.next_gives Weights.next_gives Stored.symbol_eq
+        Stored.holds Word.whole Word.BITS PRECISION infer_last symbols.old weights.old stored.new }
     ensures invalid { result ≡ Err ModelError.InvalidTable
-        → IsReadBadly Symbols.next_gives Weights.next_gives Stored.symbol_eq Stored.holds Word.whole Word.BITS PRECISION
-        infer_last symbols.old weights.old }
+        → IsReadBadly Symbols.next_gives Weights.next_gives Stored.symbol_eq Stored.holds Word.whole
+        Word.BITS PRECISION infer_last symbols.old weights.old }
 {
     let one = Word::greatest_of_bits(1);
     let mut left = Word::least();
@@ -208,12 +210,13 @@ pub fn rows_read<
     requires symbols_end { IsFinite (Symbols.remaining symbols) }
     requires weights_go { Weights.can_next weights }
     requires weights_end { IsFinite (Weights.remaining weights) }
-    ensures ok { IfOk result (λ t. GaveBothGood Symbols.next_gives symbols Weights.next_gives weights (λ ss ws.
-        AreAccepted Stored.symbol_eq Word.BITS PRECISION ss (completed PRECISION infer_last (map Word.whole ws))
+    ensures ok { IfOk result (λ t.
+        GaveBothGood Symbols.next_gives symbols Weights.next_gives weights (λ ss ws. AreAccepted
+        Stored.symbol_eq Word.BITS PRECISION ss (completed PRECISION infer_last (map Word.whole ws))
         × Stored.holds t (rows_of ss (completed PRECISION infer_last (map Word.whole ws))))) }
-    ensures invalid { result ≡ Err ModelError.InvalidTable
-        → GaveBothBad Symbols.next_gives symbols Weights.next_gives weights (λ ss ws.
-        AreAccepted Stored.symbol_eq Word.BITS PRECISION ss (completed PRECISION infer_last (map Word.whole ws))) }
+    ensures invalid { result ≡ Err ModelError.InvalidTable → GaveBothBad Symbols.next_gives symbols
+        Weights.next_gives weights (λ ss ws. AreAccepted Stored.symbol_eq Word.BITS PRECISION ss
+        (completed PRECISION infer_last (map Word.whole ws))) }
 {
     take_all::<Word, Symbol, Stored, Symbols, Weights, PRECISION>(
         &mut stored,

@@ -30,11 +30,13 @@ fn width_of_slots<const PRECISION: usize, const SLOT_BITS: usize>() -> usize
     1usize << PRECISION.saturating_sub(SLOT_BITS)
 }
 
-/// How many words the slots have in the lookup table: two a slot, or one a slot if it holds one quantile.
+/// How many words the slots have in the lookup table: two a slot, or one a slot if it holds one
+/// quantile.
 #[inline]
 pub fn words_of_table<const PRECISION: usize, const SLOT_BITS: usize>() -> usize
     requires { PRECISION ≤ 63 }
-    ensures { result ≡ words_a_slot (slot_width PRECISION SLOT_BITS) * slot_count PRECISION SLOT_BITS }
+    ensures { result
+        ≡ words_a_slot (slot_width PRECISION SLOT_BITS) * slot_count PRECISION SLOT_BITS }
 {
     let words_a_slot = width_of_slots::<PRECISION, SLOT_BITS>().min(2);
     words_a_slot * number_of_slots::<PRECISION, SLOT_BITS>()
@@ -57,8 +59,9 @@ fn first_word<Word: WholeNumber, const PRECISION: usize, const SLOT_BITS: usize>
     left / width + (left + (width - 1)) / width
 }
 
-/// The lookup table, filled up with `row` to `words` words, for which it has room. No word is tested for room, and the table
-/// stays in registers, which it would leave around a call that may request memory.
+/// The lookup table, filled up with `row` to `words` words, for which it has room. No word is
+/// tested for room, and the table stays in registers, which it would leave around a call that may
+/// request memory.
 #[inline(always)]
 fn fill<Word: Copy>(mut table: Vec<Word>, words: usize, row: Word) -> Vec<Word>
     requires room { words ≤ vec_capacity table }
@@ -72,11 +75,11 @@ fn fill<Word: Copy>(mut table: Vec<Word>, words: usize, row: Word) -> Vec<Word>
     table
 }
 
-/// The lookup table of the rows that meet each slot: the first and the last row of each slot, or one row if a slot
-/// holds one quantile.
+/// The lookup table of the rows that meet each slot: the first and the last row of each slot, or
+/// one row if a slot holds one quantile.
 ///
-/// One pass over the rows, each of which fills the words up to the first word of the next one, and one
-/// allocation, with room for `more` words after them.
+/// One pass over the rows, each of which fills the words up to the first word of the next one, and
+/// one allocation, with room for `more` words after them.
 fn slots_of<Entry, Kind: CdfEntry<Entry>, const PRECISION: usize, const SLOT_BITS: usize>(
     alloc: Global,
     entries: &[Entry],
@@ -87,7 +90,8 @@ fn slots_of<Entry, Kind: CdfEntry<Entry>, const PRECISION: usize, const SLOT_BIT
     requires searchable { IsSearchable (map Kind.cumulative entries.now) 0 }
     requires below { (i : ℕ) → i < length (map Kind.cumulative entries.now)
         → slice_index (map Kind.cumulative entries.now) i < 2 ^ PRECISION }
-    ensures { IfOk result (λ table. HasSlots (slot_width PRECISION SLOT_BITS) (slot_count PRECISION SLOT_BITS)
+    ensures { IfOk result (λ table.
+        HasSlots (slot_width PRECISION SLOT_BITS) (slot_count PRECISION SLOT_BITS)
         (map Kind.cumulative entries.now) (map Kind.Word.whole table.items)) }
 {
     let words = words_of_table::<PRECISION, SLOT_BITS>();
@@ -103,8 +107,9 @@ fn slots_of<Entry, Kind: CdfEntry<Entry>, const PRECISION: usize, const SLOT_BIT
     Ok(fill(table, words, row))
 }
 
-/// The lookup table of the rows that meet each slot. If `has_cdf`, the left cumulatives and the total follow, so that a
-/// look-up finds these words side by side. They never follow in a model of one quantile.
+/// The lookup table of the rows that meet each slot. If `has_cdf`, the left cumulatives and the
+/// total follow, so that a look-up finds these words side by side. They never follow in a model of
+/// one quantile.
 pub fn table_of_slots<Entry, Kind: CdfEntry<Entry>, const PRECISION: usize, const SLOT_BITS: usize>(
     alloc: Global,
     entries: &[Entry],
@@ -115,8 +120,9 @@ pub fn table_of_slots<Entry, Kind: CdfEntry<Entry>, const PRECISION: usize, cons
     requires searchable { IsSearchable (map Kind.cumulative entries.now) 0 }
     requires below { (i : ℕ) → i < length (map Kind.cumulative entries.now)
         → slice_index (map Kind.cumulative entries.now) i < 2 ^ PRECISION }
-    ensures { IfOk result (λ table. BeginsWithSlots Kind.Word.BITS PRECISION (slot_width PRECISION SLOT_BITS)
-        (slot_count PRECISION SLOT_BITS) (map Kind.cumulative entries.now) (map Kind.Word.whole table.items)) }
+    ensures { IfOk result (λ table. BeginsWithSlots Kind.Word.BITS PRECISION
+        (slot_width PRECISION SLOT_BITS) (slot_count PRECISION SLOT_BITS)
+        (map Kind.cumulative entries.now) (map Kind.Word.whole table.items)) }
 {
     if PRECISION == 0 || !has_cdf {
         return slots_of::<Entry, Kind, PRECISION, SLOT_BITS>(alloc, entries, 0);
@@ -198,13 +204,15 @@ pub fn slot_probe<'c, Entry, Kind: CdfEntry<Entry>, const PRECISION: usize, cons
     (first, probe_of(entries, first, last))
 }
 
-/// 1 if the row begins after the quantile, else 0. The sum of two of these has no jump, which the processor
-/// would have to predict.
+/// 1 if the row begins after the quantile, else 0. The sum of two of these has no jump, which the
+/// processor would have to predict.
 #[inline(always)]
 fn above<Entry, Kind: CdfEntry<Entry>>(entries: &[Entry], row: usize, quantile: Kind::Word) -> usize
     requires { row < length entries.now }
-    ensures at_most { slice_index (map Kind.cumulative entries.now) row ≤ Kind.Word.whole quantile → result ≡ 0 }
-    ensures above { Kind.Word.whole quantile < slice_index (map Kind.cumulative entries.now) row → result ≡ 1 }
+    ensures at_most { slice_index (map Kind.cumulative entries.now) row ≤ Kind.Word.whole quantile
+        → result ≡ 0 }
+    ensures above { Kind.Word.whole quantile < slice_index (map Kind.cumulative entries.now) row
+        → result ≡ 1 }
 {
     if quantile.is_below(Kind::cumulative_of(&entries[row])) {
         1
@@ -213,9 +221,10 @@ fn above<Entry, Kind: CdfEntry<Entry>>(entries: &[Entry], row: usize, quantile: 
     }
 }
 
-/// The last row that begins at a quantile or below it, if at most three rows meet its slot. Its index is the last
-/// of these, less 1 if the last row begins after the quantile, and less 1 if the middle row does. If fewer rows meet the
-/// slot, the first row takes the place of a missing one, and it never begins after the quantile.
+/// The last row that begins at a quantile or below it, if at most three rows meet its slot. Its
+/// index is the last of these, less 1 if the last row begins after the quantile, and less 1 if the
+/// middle row does. If fewer rows meet the slot, the first row takes the place of a missing one,
+/// and it never begins after the quantile.
 #[inline(always)]
 fn row_of_up_to_three<Entry, Kind: CdfEntry<Entry>, const PRECISION: usize, const SLOT_BITS: usize>(
     entries: &[Entry],
@@ -235,15 +244,16 @@ fn row_of_up_to_three<Entry, Kind: CdfEntry<Entry>, const PRECISION: usize, cons
         + above::<Entry, Kind>(entries, middle, quantile))
 }
 
-/// The last row that begins at a quantile or below it, among the rows that meet its slot. If the slot holds one
-/// quantile, it is the slot's row. Else, in a model of many rows, two comparisons without a jump find it among up to
-/// three rows, and a search among more.
+/// The last row that begins at a quantile or below it, among the rows that meet its slot. If the
+/// slot holds one quantile, it is the slot's row. Else, in a model of many rows, two comparisons
+/// without a jump find it among up to three rows, and a search among more.
 ///
-/// In a model of few rows, most slots are met by one row alone, which is found without a comparison. The test for this is
-/// a jump, which is predicted right for at least 15 of 16 quantiles if these are spread evenly. All other
-/// look-ups of such a model search out of line, so a loop has one body for models of few rows and one for others, and
-/// chooses between them once. A model of one or two rows always counts as one of few rows, since two comparisons are
-/// more than its search makes.
+/// In a model of few rows, most slots are met by one row alone, which is found without a
+/// comparison. The test for this is a jump, which is predicted right for at least 15 of 16
+/// quantiles if these are spread evenly. All other look-ups of such a model search out of line, so
+/// a loop has one body for models of few rows and one for others, and chooses between them once. A
+/// model of one or two rows always counts as one of few rows, since two comparisons are more than
+/// its search makes.
 #[inline(always)]
 pub fn row_in_slot<Entry, Kind: CdfEntry<Entry>, const PRECISION: usize, const SLOT_BITS: usize>(
     entries: &[Entry],
@@ -275,8 +285,8 @@ pub fn row_in_slot<Entry, Kind: CdfEntry<Entry>, const PRECISION: usize, const S
     row_among::<Entry, Kind, PRECISION, SLOT_BITS>(entries, first, last, quantile)
 }
 
-/// The same by a search between the first and the last row of the slot. It is out of line, so that a look-up
-/// without a search is as short as it can be.
+/// The same by a search between the first and the last row of the slot. It is out of line, so that
+/// a look-up without a search is as short as it can be.
 #[inline(never)]
 fn row_among<Entry, Kind: CdfEntry<Entry>, const PRECISION: usize, const SLOT_BITS: usize>(
     entries: &[Entry],

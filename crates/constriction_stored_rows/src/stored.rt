@@ -8,7 +8,8 @@ ghost use Rattle.constriction_stored_rows.specs.Stored.{IsCdf, lefts_in, weights
 use constriction_model::Weight;
 use constriction_numbers::WholeNumber;
 
-/// The left cumulative of the row at `index`, and its weight, which is the difference to the next word of the cdf.
+/// The left cumulative of the row at `index`, and its weight, which is the difference to the next
+/// word of the cdf.
 #[inline]
 pub fn cdf_row_at<Word: WholeNumber, const PRECISION: usize>(
     cdf: &[Word],
@@ -34,7 +35,8 @@ pub fn contiguous_row_at<Word: WholeNumber, const PRECISION: usize>(
     requires fits { PRECISION ≤ Word.BITS }
     requires cdf { IsCdf Word.BITS PRECISION (map Word.whole cdf.now) }
     requires in_bounds { index + 1 < length cdf.now }
-    ensures row { slice_index_or (contiguous_rows (weights_of PRECISION (lefts_in (map Word.whole cdf.now)))) index
+    ensures row { slice_index_or
+        (contiguous_rows (weights_of PRECISION (lefts_in (map Word.whole cdf.now)))) index
         (row_of Word.whole Word.base result) ≡ row_of Word.whole Word.base result }
     ensures within { LiesWithin PRECISION (row_of Word.whole Word.base result) }
     ensures symbol { result.0 ≡ index }

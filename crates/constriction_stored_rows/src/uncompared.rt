@@ -33,8 +33,8 @@ impl<Word: WholeNumber, Symbol: Drop> TakesRows<Symbol, Word> for Uncompared<Wor
     ghost symmetry_law = { λ s t. refl };
 }
 
-/// The entries of these symbols and weights. The last weight may be inferred. Symbols and weights are
-/// accepted as by a constructor, and equal symbols are accepted too.
+/// The entries of these symbols and weights. The last weight may be inferred. Symbols and weights
+/// are accepted as by a constructor, and equal symbols are accepted too.
 pub fn entries_read<
     Word: WholeNumber,
     Symbol: Drop,
@@ -48,12 +48,15 @@ pub fn entries_read<
     infer_last: bool,
 ) -> Result<Vec<(Word, Symbol)>, ModelError>
     requires precision { IsPrecision Word.BITS PRECISION }
-    requires symbols_end { IsFiniteIterable Symbols.into_iter_gives Symbols.IntoIter.can_next Symbols.IntoIter.remaining symbols }
-    requires weights_end { IsFiniteIterable Weights.into_iter_gives Weights.IntoIter.can_next Weights.IntoIter.remaining weights }
-    ensures { IsMadeOfBoth (AreAccepted (λ _ _. false) Word.BITS PRECISION) (completed PRECISION infer_last)
+    requires symbols_end { IsFiniteIterable Symbols.into_iter_gives Symbols.IntoIter.can_next
+        Symbols.IntoIter.remaining symbols }
+    requires weights_end { IsFiniteIterable Weights.into_iter_gives Weights.IntoIter.can_next
+        Weights.IntoIter.remaining weights }
+    ensures { IsMadeOfBoth (AreAccepted (λ _ _. false) Word.BITS PRECISION)
+        (completed PRECISION infer_last)
         (WasReadOf Symbols.into_iter_gives Symbols.IntoIter.next_gives symbols)
-        (WasReadOf Weights.into_iter_gives Weights.IntoIter.next_gives weights)
-        Word.whole (λ v ss ws. HoldsRows Word.whole v.items (rows_of ss ws)) result }
+        (WasReadOf Weights.into_iter_gives Weights.IntoIter.next_gives weights) Word.whole
+        (λ v ss ws. HoldsRows Word.whole v.items (rows_of ss ws)) result }
 {
     let symbols = symbols.into_iter();
     let weights = weights.into_iter();

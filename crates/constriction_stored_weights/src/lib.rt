@@ -46,7 +46,8 @@ pub type StoredModel<Symbol, const PRECISION: usize> = NonContiguousCategoricalD
     PRECISION,
 >;
 
-/// Adds a weight that was read. A full list asks for room for as many weights as it has, and for at least four.
+/// Adds a weight that was read. A full list asks for room for as many weights as it has, and for at
+/// least four.
 fn push_weight(weights: &mut Vec<u32>, weight: u32) -> Result<(), AllocError>
     // There is room only for the weights that were read, as many again, and four.
     requires room { vec_capacity weights.old ≤ 2 * length weights.old.items + 4 }
@@ -60,18 +61,19 @@ fn push_weight(weights: &mut Vec<u32>, weight: u32) -> Result<(), AllocError>
     Ok(())
 }
 
-/// Reads stored weights, and no word after them. Memory is asked for only for the weights that were read, as many again, and four,
-/// whatever number of weights is announced.
+/// Reads stored weights, and no word after them. Memory is asked for only for the weights that were
+/// read, as many again, and four, whatever number of weights is announced.
 pub fn read_weights<Source: ReadWords<u32, Queue>>(
     alloc: Global,
     source: &mut Source,
 ) -> Result<Vec<u32>, CoderError<ReadingError, Source::ReadError>>
     requires { Source.can_read source.old }
     ensures goes_on { Source.can_read source.new }
-    ensures ok { IfOk result (λ weights. ReadsWeights Source.read_gives Source.tells_upcoming source.old weights.items source.new) }
+    ensures ok { IfOk result (λ weights.
+        ReadsWeights Source.read_gives Source.tells_upcoming source.old weights.items source.new) }
     // No weights are refused.
-    ensures err { IfErr result (λ error. StopsReadingWeights Source.read_gives Source.tells_upcoming (λ _. ⊥) source.old error
-        source.new) }
+    ensures err { IfErr result (λ error. StopsReadingWeights Source.read_gives Source.tells_upcoming
+        (λ _. ⊥) source.old error source.new) }
 {
     let Some(count) = source.read()? else {
         return Err(CoderError::Frontend(ReadingError::TooFewWords));
@@ -96,8 +98,10 @@ pub fn write_weights<Sink: WriteWords<u32>>(
 ) -> Result<(), CoderError<StoringError, Sink::WriteError>>
     requires { Sink.can_write sink.old }
     ensures goes_on { Sink.can_write sink.new }
-    ensures ok { OnOk result (WritesWeights Sink.write_gives Sink.tells_written sink.old weights.now sink.new) }
-    ensures err { IfErr result (λ error. StopsWritingWeights Sink.write_gives sink.old weights.now error sink.new) }
+    ensures ok { OnOk result
+        (WritesWeights Sink.write_gives Sink.tells_written sink.old weights.now sink.new) }
+    ensures err { IfErr result (λ error.
+        StopsWritingWeights Sink.write_gives sink.old weights.now error sink.new) }
     ensures memory { result ≢ Err (CoderError.Frontend StoringError.OutOfMemory) }
 {
     if weights.len() > u32::MAX as usize {
@@ -117,9 +121,12 @@ fn stored_model_of<Symbol: Eq + Drop, const PRECISION: usize>(
     weights: Vec<u32>,
 ) -> Result<StoredModel<Symbol, PRECISION>, ReadingError>
     requires precision { IsPrecision 32 PRECISION }
-    ensures accepted { IfOk result (λ _. AreAccepted Symbol.eq 32 PRECISION symbols.items weights.items) }
-    ensures rows { IfOk result (λ model. decoder_model_rows model ≡ rows_of symbols.items weights.items) }
-    ensures not_accepted { result ≡ Err ReadingError.NotAccepted → ¬ (AreAccepted Symbol.eq 32 PRECISION symbols.items weights.items) }
+    ensures accepted { IfOk result (λ _.
+        AreAccepted Symbol.eq 32 PRECISION symbols.items weights.items) }
+    ensures rows { IfOk result (λ model.
+        decoder_model_rows model ≡ rows_of symbols.items weights.items) }
+    ensures not_accepted { result ≡ Err ReadingError.NotAccepted
+        → ¬ (AreAccepted Symbol.eq 32 PRECISION symbols.items weights.items) }
     ensures whole { result ≢ Err ReadingError.TooFewWords }
 {
     match StoredModel::from_symbols_and_nonzero_fixed_point_probabilities(
@@ -131,7 +138,8 @@ fn stored_model_of<Symbol: Eq + Drop, const PRECISION: usize>(
     }
 }
 
-/// Reads the stored weights of a model of these symbols, one for each symbol, and no word after them.
+/// Reads the stored weights of a model of these symbols, one for each symbol, and no word after
+/// them.
 pub fn read_model<Symbol: Eq + Drop, Source: ReadWords<u32, Queue>, const PRECISION: usize>(
     alloc: Global,
     symbols: Vec<Symbol>,
@@ -140,10 +148,11 @@ pub fn read_model<Symbol: Eq + Drop, Source: ReadWords<u32, Queue>, const PRECIS
     requires precision { IsPrecision 32 PRECISION }
     requires can_read { Source.can_read source.old }
     ensures goes_on { Source.can_read source.new }
-    ensures ok { IfOk result (λ model. ReadsModel Source.read_gives Source.tells_upcoming Symbol.eq PRECISION symbols.items
-        source.old (decoder_model_rows model) source.new) }
+    ensures ok { IfOk result (λ model. ReadsModel Source.read_gives Source.tells_upcoming Symbol.eq
+        PRECISION symbols.items source.old (decoder_model_rows model) source.new) }
     ensures err { IfErr result (λ error. StopsReadingWeights Source.read_gives Source.tells_upcoming
-        (λ weights. ¬ (AreAccepted Symbol.eq 32 PRECISION symbols.items weights)) source.old error source.new) }
+        (λ weights. ¬ (AreAccepted Symbol.eq 32 PRECISION symbols.items weights)) source.old error
+        source.new) }
 {
     let weights = match read_weights(alloc, source) {
         Ok(weights) => weights,
@@ -181,9 +190,10 @@ where
     M::Symbol: Drop,
     requires { Sink.can_write sink.old }
     ensures goes_on { Sink.can_write sink.new }
-    ensures ok { OnOk result (WritesWeights Sink.write_gives Sink.tells_written sink.old (map (λ r. r.weight) (M.rows model)) sink.new) }
-    ensures err { IfErr result (λ error. StopsWritingWeights Sink.write_gives sink.old (map (λ r. r.weight) (M.rows model)) error
-        sink.new) }
+    ensures ok { OnOk result (WritesWeights Sink.write_gives Sink.tells_written sink.old
+        (map (λ r. r.weight) (M.rows model)) sink.new) }
+    ensures err { IfErr result (λ error. StopsWritingWeights Sink.write_gives sink.old
+        (map (λ r. r.weight) (M.rows model)) error sink.new) }
 {
     let Ok(weights) = row_weights(alloc, model) else {
         return Err(CoderError::Frontend(StoringError::OutOfMemory));
@@ -205,10 +215,13 @@ where
     M::Symbol: Eq + Drop,
     requires { symbols.items ≡ symbols_of (M.rows model) }
     ensures rows { IfOk result (λ read. decoder_model_rows read ≡ M.rows model) }
-    ensures too_many { result ≡ Err (ReadWriteError.Write (CoderError.Frontend StoringError.TooManyWeights))
+    ensures too_many { result
+        ≡ Err (ReadWriteError.Write (CoderError.Frontend StoringError.TooManyWeights))
         → 2 ^ 32 ≤ length (M.rows model) }
-    ensures whole { result ≢ Err (ReadWriteError.Read (CoderError.Frontend ReadingError.TooFewWords)) }
-    ensures accepted { result ≡ Err (ReadWriteError.Read (CoderError.Frontend ReadingError.NotAccepted))
+    ensures whole { result
+        ≢ Err (ReadWriteError.Read (CoderError.Frontend ReadingError.TooFewWords)) }
+    ensures accepted { result
+        ≡ Err (ReadWriteError.Read (CoderError.Frontend ReadingError.NotAccepted))
         → ¬ (IsDistinct M.Symbol.eq symbols.items) }
 {
     let mut words = Vec::new(alloc);

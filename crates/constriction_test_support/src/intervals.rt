@@ -1,5 +1,5 @@
-//! Whether models answer alike in both directions, and callers that look up each quantile of a symbol. The contract of an entry
-//! says that they may.
+//! Whether models answer alike in both directions, and callers that look up each quantile of a
+//! symbol. The contract of an entry says that they may.
 
 ghost use Rattle.std.specs.Prelude.{◌+◌, ◌^◌, ◌<◌, ◌≤◌, ℕ, IfSome};
 
@@ -15,7 +15,8 @@ pub fn interval_of<M, const PRECISION: usize>(
 where
     M: EncoderModel<PRECISION>,
     ensures { IfSome result (λ x. (quantile : ℕ) → M.Probability.whole x.0 ≤ quantile
-        → quantile < M.Probability.whole x.0 + M.Probability.whole (M.Probability.base x.1) → quantile < 2 ^ PRECISION) }
+        → quantile < M.Probability.whole x.0 + M.Probability.whole (M.Probability.base x.1)
+        → quantile < 2 ^ PRECISION) }
 {
     model.left_cumulative_and_probability(symbol)
 }
@@ -36,7 +37,8 @@ where
     Ok(true)
 }
 
-/// Whether the row of a quantile and the entry of its symbol have the same left cumulative and weight.
+/// Whether the row of a quantile and the entry of its symbol have the same left cumulative and
+/// weight.
 fn is_entry<E, D>(encoder: &E, decoder: &D, quantile: u8) -> Result<bool, AllocError>
 where
     E: EncoderModel<6, Probability = u8>,
@@ -51,9 +53,10 @@ where
     })
 }
 
-/// Whether two models answer alike in both directions. Each of these symbols, in their order, has to begin where the one before
-/// it ends, and to have its weight and the row of each of its quantiles. The last one has to end at 64. The row of each quantile
-/// has to agree with the entry of its symbol.
+/// Whether two models answer alike in both directions. Each of these symbols, in their order, has
+/// to begin where the one before it ends, and to have its weight and the row of each of its
+/// quantiles. The last one has to end at 64. The row of each quantile has to agree with the entry
+/// of its symbol.
 pub fn agree<E, D>(
     encoder: &E,
     decoder: &D,
@@ -87,8 +90,9 @@ where
     Ok(end == 64)
 }
 
-/// Whether a walk through the rows of a model gives exactly these symbols and weights, in their order. The left cumulative of each
-/// has to be the sum of the weights before it, and the weights have to add up to the number of quantiles.
+/// Whether a walk through the rows of a model gives exactly these symbols and weights, in their
+/// order. The left cumulative of each has to be the sum of the weights before it, and the weights
+/// have to add up to the number of quantiles.
 pub fn has_rows_of<M>(model: M, symbols: &[M::Symbol], weights: &[u8]) -> Result<bool, AllocError>
 where
     M: IterableEntropyModel<6, Probability = u8>,

@@ -1,5 +1,5 @@
-//! What a caller in another crate knows of the words that a cursor lends, and of its own words after
-//! a cursor wrote them.
+//! What a caller in another crate knows of the words that a cursor lends, and of its own words
+//! after a cursor wrote them.
 
 ghost use Rattle.std.specs.Prelude.{◌≡◌, ◌<◌, length, slice_set};
 ghost use Rattle.constriction_backends.specs.Cursor.{buf_of, pos_of};
@@ -10,7 +10,8 @@ use constriction_words::{Pos, Queue, Seek};
 /// Sets the first word through a borrow of all words.
 pub fn set_first<Word: Copy, Buf: SafeBufMut<Word>>(cursor: &mut Cursor<Word, Buf>, word: Word)
     requires { 0 < length (Buf.words_of (buf_of cursor.old)) }
-    ensures buf { buf_of cursor.new ≡ Buf.with_words (buf_of cursor.old) (slice_set (Buf.words_of (buf_of cursor.old)) 0 word) }
+    ensures buf { buf_of cursor.new
+        ≡ Buf.with_words (buf_of cursor.old) (slice_set (Buf.words_of (buf_of cursor.old)) 0 word) }
     ensures pos { pos_of cursor.new ≡ pos_of cursor.old }
 {
     let words = cursor.buf_mut();
@@ -21,7 +22,8 @@ pub fn set_first<Word: Copy, Buf: SafeBufMut<Word>>(cursor: &mut Cursor<Word, Bu
 #[tactic(auto, using(constriction_buffers::specs::lemmas::Buffer::set_front))]
 pub fn set_written<Word: Copy, Buf: SafeBufMut<Word>>(cursor: &mut Cursor<Word, Buf>, word: Word)
     requires { 0 < pos_of cursor.old }
-    ensures buf { buf_of cursor.new ≡ Buf.with_words (buf_of cursor.old) (slice_set (Buf.words_of (buf_of cursor.old)) 0 word) }
+    ensures buf { buf_of cursor.new
+        ≡ Buf.with_words (buf_of cursor.old) (slice_set (Buf.words_of (buf_of cursor.old)) 0 word) }
     ensures pos { pos_of cursor.new ≡ pos_of cursor.old }
 {
     let words = cursor.written_mut();
@@ -95,7 +97,8 @@ pub fn read_over_a_loan<Buf: SafeBufMut<u8>>(cursor: &mut Cursor<u8, Buf>) -> Op
 /// A view that writes leaves the cursor its position and the number of its words.
 pub fn move_a_view<Buf: SafeBufMut<u8>>(cursor: &mut Cursor<u8, Buf>)
     ensures pos { pos_of cursor.new ≡ pos_of cursor.old }
-    ensures len { length (Buf.words_of (buf_of cursor.new)) ≡ length (Buf.words_of (buf_of cursor.old)) }
+    ensures len { length (Buf.words_of (buf_of cursor.new))
+        ≡ length (Buf.words_of (buf_of cursor.old)) }
 {
     let mut view = cursor.as_mut_view();
     let _ = view.write(8);

@@ -1,8 +1,8 @@
-//! What the tests of several crates share: models with their rows, and calls that ask them; a word type of a caller's
-//! own; and functions that borrow the words of a cursor.
+//! What the tests of several crates share: models with their rows, and calls that ask them; a word
+//! type of a caller's own; and functions that borrow the words of a cursor.
 //!
-//! They stand here so that they are proved once. The crates of tests that use them are proved twice, with and without
-//! their tests.
+//! They stand here so that they are proved once. The crates of tests that use them are proved
+//! twice, with and without their tests.
 #![tactic(auto)]
 
 pub mod any_symbols;

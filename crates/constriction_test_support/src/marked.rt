@@ -45,5 +45,6 @@ impl SafeBufMut<u8> for Marked {
 
     ghost unchanged = { λ s. ap (λ v. record s { words = v }) (with_items_unchanged s.words) };
 
-    ghost again = { λ s ws vs same. ap (λ v. record s { words = v }) (with_items_again s.words ws vs same) };
+    ghost again = { λ s ws vs same.
+        ap (λ v. record s { words = v }) (with_items_again s.words ws vs same) };
 }

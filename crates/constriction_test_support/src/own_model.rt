@@ -1,4 +1,5 @@
-//! A model of the caller's own: its rows, its answers to a symbol and to a quantile, and its symbol table.
+//! A model of the caller's own: its rows, its answers to a symbol and to a quantile, and its symbol
+//! table.
 
 ghost use Rattle.std.specs.Prelude.{◌≡◌, ◌-◌, ◌∷◌, [], drop, nat_eq};
 ghost use Rattle.std.specs.Iterator.{at_most};
@@ -14,7 +15,8 @@ use constriction::stream::model::{
 use constriction_words::{BitArray, WholeNumber};
 use std::alloc::AllocError;
 
-/// A model of three letters, which need not differ. The first has the quantiles 0 and 1, the second 2 to 6, the third 7.
+/// A model of three letters, which need not differ. The first has the quantiles 0 and 1, the second
+/// 2 to 6, the third 7.
 #[derive(Drop)]
 pub struct Triple {
     first: char,
@@ -98,8 +100,9 @@ pub struct TripleSymbolTable<'m> {
 impl<'m> Iterator for TripleSymbolTable<'m> {
     type Item = Result<(char, u8, Weight<u8>), AllocError>;
 
-    ghost next_gives = { YieldsRow (λ s t. t ≡ s) (λ _. ⊥) ⟦<u8 as WholeNumber>⟧.whole ⟦<u8 as WholeNumber>⟧.base
-        (λ t. drop t.next (⟦<Triple as EntropyModel<3>>⟧.rows t.model.now)) };
+    ghost next_gives = { YieldsRow (λ s t. t ≡ s) (λ _. ⊥) ⟦<u8 as WholeNumber>⟧.whole
+        ⟦<u8 as WholeNumber>⟧.base (λ t.
+        drop t.next (⟦<Triple as EntropyModel<3>>⟧.rows t.model.now)) };
 
     ghost remaining = { λ t. at_most (3 - t.next) };
 

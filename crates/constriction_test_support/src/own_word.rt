@@ -1,7 +1,7 @@
 //! A caller's own word type: a sample of 16 bits, over `u16`.
 //!
-//! The traits build on one another, so the files are best read in this order: `operators`, `number`,
-//! `checked`, `integer`, then `nonzero`, `whole_number` and `word`.
+//! The traits build on one another, so the files are best read in this order: `operators`,
+//! `number`, `checked`, `integer`, then `nonzero`, `whole_number` and `word`.
 
 mod checked;
 mod integer;

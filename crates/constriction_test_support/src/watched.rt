@@ -1,4 +1,5 @@
-//! Symbols that count how often they are compared, hashed and cloned, and how many of them there are.
+//! Symbols that count how often they are compared, hashed and cloned, and how many of them there
+//! are.
 
 ghost use Rattle.std.specs.Prelude.{◌≡◌, ◌==◌};
 ghost use Rattle.std.specs.Cmp.{partial_order_from_own_ties};
@@ -53,7 +54,8 @@ pub fn tallied(tally: &Tally) -> (usize, usize, usize) {
     (tally.compared.get(), tally.cloned.get(), alive)
 }
 
-/// A symbol that counts what is done to it. A clone fails, as if memory were refused, if its number is `u32::MAX`.
+/// A symbol that counts what is done to it. A clone fails, as if memory were refused, if its number
+/// is `u32::MAX`.
 #[derive(Drop)]
 pub struct Watched {
     pub number: u32,
@@ -78,7 +80,8 @@ impl Eq for Watched {
 impl PartialOrd for Watched {
     ghost partial_cmp = { as_partial_cmp (on (λ a. a.number) nat_cmp) };
 
-    ghost laws = { partial_order_from_own_ties (Prim.search (comparing, rules)) (Prim.search (comparing, rules)) };
+    ghost laws = { partial_order_from_own_ties (Prim.search (comparing, rules))
+        (Prim.search (comparing, rules)) };
 
     fn partial_cmp(&self, other: &Watched) -> Option<Ordering> {
         Some(self.cmp(other))

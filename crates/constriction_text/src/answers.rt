@@ -24,8 +24,9 @@ type Weighted<Word, const PRECISION: usize> = ContiguousCategoricalEntropyModel<
     PRECISION,
 >;
 
-/// The model of the weights of a line, with the last weight inferred if `infer`, if they are accepted. A
-/// weight that is no word is read as 0, which no model accepts, so the weights are read once and not copied.
+/// The model of the weights of a line, with the last weight inferred if `infer`, if they are
+/// accepted. A weight that is no word is read as 0, which no model accepts, so the weights are read
+/// once and not copied.
 fn contiguous_model<Word: FormatWord, const PRECISION: usize>(
     alloc: Global,
     weights: &[u64],
@@ -97,8 +98,8 @@ fn push_quantile<Word: FormatWord, const PRECISION: usize>(
 ) -> Result<(), AllocError>
     requires precision { IsPrecision Word.BITS PRECISION }
     requires small { PRECISION < 64 }
-    ensures { OnOk result (string_bytes text.new ≡ string_bytes text.old
-        ++ text_of_model Word.BITS PRECISION weights.now (λ rows. quantile_text PRECISION rows quantile)) }
+    ensures { OnOk result (string_bytes text.new ≡ string_bytes text.old ++ text_of_model Word.BITS
+        PRECISION weights.now (λ rows. quantile_text PRECISION rows quantile)) }
 {
     match contiguous_model::<Word, PRECISION>(alloc, weights, false)? {
         Some(model) => push_row_of_quantile(text, &model, quantile),
@@ -146,14 +147,16 @@ fn push_symbol<Word: FormatWord, const PRECISION: usize>(
     }
 }
 
-/// Adds the lines of all rows of a uniform model, or says that no uniform model has this many symbols.
+/// Adds the lines of all rows of a uniform model, or says that no uniform model has this many
+/// symbols.
 fn push_uniform<Word: UniformWord<PRECISION>, const PRECISION: usize>(
     text: &mut String,
     range: u64,
 ) -> Result<(), AllocError>
     requires precision { IsPrecision Word.BITS PRECISION }
     requires small { PRECISION < 64 }
-    ensures { OnOk result (string_bytes text.new ≡ string_bytes text.old ++ uniform_text PRECISION range) }
+    ensures { OnOk result
+        (string_bytes text.new ≡ string_bytes text.old ++ uniform_text PRECISION range) }
 {
     if range < 2 || range > 1 << PRECISION {
         return text.push_str("range\n");

@@ -81,7 +81,8 @@ where
     M::Probability: FormatWord,
     M::SymbolTable: Drop,
     requires { ClonesAreSame M.IterableEntropyModel.stands_for }
-    ensures { OnOk result (string_bytes text.new ≡ string_bytes text.old ++ rows_text (M.rows model)) }
+    ensures { OnOk result
+        (string_bytes text.new ≡ string_bytes text.old ++ rows_text (M.rows model)) }
 {
     let mut table = model.symbol_table();
     while let Some(row) = table.next() {
@@ -92,8 +93,8 @@ where
     Ok(())
 }
 
-/// A word that has uniform models. Each says so itself: a uniform model holds three words, and not every
-/// word type is small enough for that.
+/// A word that has uniform models. Each says so itself: a uniform model holds three words, and not
+/// every word type is small enough for that.
 pub(crate) trait UniformWord<const PRECISION: usize>: FormatWord {
     /// Adds the lines of all rows of the uniform model of the symbols `0..range`.
     fn push_uniform_rows(text: &mut String, range: usize) -> Result<(), AllocError>

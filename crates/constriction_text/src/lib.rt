@@ -1,7 +1,7 @@
 //! Texts whose lines ask for the rows of models.
 //!
-//! [`run`] reads an input to its end and writes the answer to each of its lines. [`parse`] reads what a line
-//! asks for, and [`answer`] answers one.
+//! [`run`] reads an input to its end and writes the answer to each of its lines. [`parse`] reads
+//! what a line asks for, and [`answer`] answers one.
 #![tactic(auto)]
 
 mod answers;

@@ -148,14 +148,16 @@ fn parse_numbers(alloc: Global, text: Option<&[u8]>) -> Result<Option<Vec<u64>>,
     Ok(Some(numbers))
 }
 
-/// The first number of the rest of a line, and the others, if there is a first one and each word spells a number.
+/// The first number of the rest of a line, and the others, if there is a first one and each word
+/// spells a number.
 #[tactic(auto, unfolding(crate::specs::private::Reading::read_numbers))]
 fn parse_first_and_others(
     alloc: Global,
     text: Option<&[u8]>,
 ) -> Result<Option<(u64, Vec<u64>)>, AllocError>
     ensures { IfOk result (λ found. option_map (λ numbers. (numbers.0, numbers.1.items)) found
-        ≡ option_and_then first_and_others (read_numbers (parts_of 32 (option_copied text.entry)))) }
+        ≡ option_and_then first_and_others
+        (read_numbers (parts_of 32 (option_copied text.entry)))) }
 {
     let Some(words) = text else {
         return Ok(None);
@@ -173,7 +175,8 @@ fn parse_first_and_others(
 /// The number that the rest of a line spells, if that is a single number.
 #[tactic(auto, unfolding(crate::specs::private::Reading::read_numbers))]
 fn parse_only_number(text: Option<&[u8]>) -> Option<u64>
-    ensures { result ≡ option_and_then only_number (read_numbers (parts_of 32 (option_copied text.entry))) }
+    ensures { result
+        ≡ option_and_then only_number (read_numbers (parts_of 32 (option_copied text.entry))) }
 {
     let Some(words) = text else {
         return None;
@@ -193,8 +196,8 @@ fn parse_command(
     format: Format,
     text: Option<&[u8]>,
 ) -> Result<Option<Command>, AllocError>
-    ensures { IfOk result (λ found. option_map view found
-        ≡ option_and_then (read_request keyword.now format) (read_numbers (parts_of 32 (option_copied text.entry)))) }
+    ensures { IfOk result (λ found. option_map view found ≡ option_and_then
+        (read_request keyword.now format) (read_numbers (parts_of 32 (option_copied text.entry)))) }
 {
     if keyword == b"table".as_slice() {
         return match parse_numbers(alloc, text)? {
@@ -252,12 +255,15 @@ fn parse_line(alloc: Global, line: &[u8]) -> Result<Option<Command>, AllocError>
     }
 }
 
-/// What a line asks for, or `None` if it spells no request. The line is given without the byte 10 that ends it.
+/// What a line asks for, or `None` if it spells no request. The line is given without the byte 10
+/// that ends it.
 ///
 /// The words are read once, from left to right, and only the numbers take memory.
 pub fn parse(alloc: Global, line: &[u8]) -> Result<Option<Command>, AllocError>
-    ensures found { IfOk result (λ found. IfSome found (λ command. Spells line.now (view command))) }
-    ensures none { IfOk result (λ found. IfNone found ((request : Request) → ¬ (Spells line.now request))) }
+    ensures found { IfOk result (λ found. IfSome found (λ command.
+        Spells line.now (view command))) }
+    ensures none { IfOk result (λ found.
+        IfNone found ((request : Request) → ¬ (Spells line.now request))) }
 {
     parse_line(alloc, line)
 }

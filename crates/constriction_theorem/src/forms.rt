@@ -19,8 +19,8 @@ pub type FormAndReplies<Symbol, Probability, const PRECISION: usize> = (
     Vec<Reply<Symbol, Probability>>,
 );
 
-/// Converts a decoder by any steps, and answers queries by the form that they leave and by an encoder of the
-/// same entries. If memory is refused, the form is dropped.
+/// Converts a decoder by any steps, and answers queries by the form that they leave and by an
+/// encoder of the same entries. If memory is refused, the form is dropped.
 pub fn answer_by_form<Symbol: Eq + Clone + Drop, Probability: IndexWord, E, const PRECISION: usize>(
     alloc: Global,
     form: DecoderForm<Symbol, Probability, PRECISION>,
@@ -35,8 +35,9 @@ where
     requires equal { ClonesAreEqual E.symbol_eq Symbol.is_clone }
     requires alike { SameEntries E.symbol_eq (E.rows encoder.now) (form_rows form) }
     ensures answers { IfOk result (λ x. AnswersAfter (λ s t. t ≡ s) Symbol.is_clone
-        (replies_by_scan PRECISION Probability.whole E.symbol_eq queries.now) steps.now (is_lookup form) (form_rows form)
-        (is_lookup x.0) (form_rows x.0) (map (in_numbers Probability.whole Probability.base) x.1.items)) }
+        (replies_by_scan PRECISION Probability.whole E.symbol_eq queries.now) steps.now
+        (is_lookup form) (form_rows form) (is_lookup x.0) (form_rows x.0)
+        (map (in_numbers Probability.whole Probability.base) x.1.items)) }
     ensures refused { IfErr result (λ e. e ≡ ModelError.OutOfMemory) }
 {
     let converted = convert_chain(alloc, form, steps)?;

@@ -1,16 +1,18 @@
-//! The theorem: the models of one row list reply alike, however they were made, and a cursor and its reversal
-//! answer alike.
+//! The theorem: the models of one row list reply alike, however they were made, and a cursor and
+//! its reversal answer alike.
 //!
-//! The first half begins with lists. [`answer_from_symbols_and_weights`] and [`answer_from_weights`] accept
-//! lists exactly if they tile, make the models, convert one by any steps, and ask each the same queries. The
-//! replies are those that a scan of the rows of the lists gives. [`answer_by_uniform_model`] does this for the
-//! dividing model, [`answer_by_model`] and [`answer_by_symbol_table`] for any model that can be walked
-//! through, and [`answer_by_form`] for a decoder that exists already. These functions may make lookup tables,
-//! so their `PRECISION` is at most 63. [`answer_from_weights_by_search`] and [`answer_beside_encoder`] make none,
-//! and take any `PRECISION`. The second half is [`run_cursor_and_reversal`].
+//! The first half begins with lists. [`answer_from_symbols_and_weights`] and
+//! [`answer_from_weights`] accept lists exactly if they tile, make the models, convert one by any
+//! steps, and ask each the same queries. The replies are those that a scan of the rows of the lists
+//! gives. [`answer_by_uniform_model`] does this for the dividing model, [`answer_by_model`] and
+//! [`answer_by_symbol_table`] for any model that can be walked through, and [`answer_by_form`] for
+//! a decoder that exists already. These functions may make lookup tables, so their `PRECISION` is
+//! at most 63. [`answer_from_weights_by_search`] and [`answer_beside_encoder`] make none, and take
+//! any `PRECISION`. The second half is [`run_cursor_and_reversal`].
 //!
-//! Replies alone do not show which model gave them. So each function that converts a form also answers the form
-//! that the steps left, and its clauses say which kind and which rows that form has.
+//! Replies alone do not show which model gave them. So each function that converts a form also
+//! answers the form that the steps left, and its clauses say which kind and which rows that form
+//! has.
 #![tactic(auto)]
 
 mod forms;

@@ -1,4 +1,5 @@
-//! Models that are made of lists and of other models, each by one call, with contracts over lists and rows.
+//! Models that are made of lists and of other models, each by one call, with contracts over lists
+//! and rows.
 
 ghost use Rattle.std.specs.Prelude.{◌≡◌, map, nat_eq, IfOk, IfErr};
 ghost use Rattle.std.specs.List.{IsDistinct};
@@ -46,10 +47,11 @@ pub(crate) fn searching_from<Symbol: Eq + Drop, Probability: WholeNumber, const 
     infer_last_probability: bool,
 ) -> Result<Searching<Symbol, Probability, PRECISION>, ModelError>
     requires { IsPrecision Probability.BITS PRECISION }
-    ensures accepted { IfOk result (λ _. AreAccepted Symbol.eq Probability.BITS PRECISION symbols.items
+    ensures accepted { IfOk result (λ _.
+        AreAccepted Symbol.eq Probability.BITS PRECISION symbols.items
         (completed PRECISION infer_last_probability (map Probability.whole weights.items))) }
-    ensures rows { IfOk result (λ m. decoder_model_rows m
-        ≡ rows_of symbols.items (completed PRECISION infer_last_probability (map Probability.whole weights.items))) }
+    ensures rows { IfOk result (λ m. decoder_model_rows m ≡ rows_of symbols.items
+        (completed PRECISION infer_last_probability (map Probability.whole weights.items))) }
     ensures invalid { result ≡ Err ModelError.InvalidTable
         → ¬ (AreAccepted Symbol.eq Probability.BITS PRECISION symbols.items
         (completed PRECISION infer_last_probability (map Probability.whole weights.items))) }
@@ -71,9 +73,10 @@ pub(crate) fn contiguous_from<Probability: WholeNumber, const PRECISION: usize>(
     requires { IsPrecision Probability.BITS PRECISION }
     ensures accepted { IfOk result (λ _. IsAccepted Probability.BITS PRECISION
         (completed PRECISION infer_last_probability (map Probability.whole weights.items))) }
-    ensures rows { IfOk result (λ m. contiguous_model_rows m
-        ≡ contiguous_rows (completed PRECISION infer_last_probability (map Probability.whole weights.items))) }
-    ensures invalid { result ≡ Err ModelError.InvalidTable → ¬ (IsAccepted Probability.BITS PRECISION
+    ensures rows { IfOk result (λ m. contiguous_model_rows m ≡ contiguous_rows
+        (completed PRECISION infer_last_probability (map Probability.whole weights.items))) }
+    ensures invalid { result ≡ Err ModelError.InvalidTable
+        → ¬ (IsAccepted Probability.BITS PRECISION
         (completed PRECISION infer_last_probability (map Probability.whole weights.items))) }
 {
     Contiguous::from_nonzero_fixed_point_probabilities(alloc, weights, infer_last_probability)
@@ -87,7 +90,8 @@ pub(crate) fn encoder_of<M, const PRECISION: usize>(
 where
     M: IterableEntropyModel<PRECISION>,
     M::Symbol: Hash + Eq + Drop,
-    ensures entries { IfOk result (λ e. HoldsEntriesOf M.Symbol.eq M.stands_for (encoder_model_rows e) (M.rows model)) }
+    ensures entries { IfOk result (λ e.
+        HoldsEntriesOf M.Symbol.eq M.stands_for (encoder_model_rows e) (M.rows model)) }
     ensures refused { IfErr result (λ e. e ≡ ModelError.OutOfMemory) }
 {
     to_generic_encoder_model::<M, PRECISION>(alloc, model)
@@ -103,13 +107,15 @@ pub(crate) fn hashed_of<
     model: &Searching<Symbol, Probability, PRECISION>,
 ) -> Result<NonContiguousCategoricalEncoderModel<Symbol, Probability, PRECISION>, ModelError>
     requires { ClonesAreEqual Symbol.eq Symbol.is_clone }
-    ensures entries { IfOk result (λ e. SameEntries Symbol.eq (encoder_model_rows e) (decoder_model_rows model.now)) }
+    ensures entries { IfOk result (λ e.
+        SameEntries Symbol.eq (encoder_model_rows e) (decoder_model_rows model.now)) }
     ensures refused { IfErr result (λ e. e ≡ ModelError.OutOfMemory) }
 {
     encoder_of(alloc, model)
 }
 
-/// The searching decoder and the hashed encoder of a model's rows. No two symbols of the rows are equal.
+/// The searching decoder and the hashed encoder of a model's rows. No two symbols of the rows are
+/// equal.
 pub(crate) fn both_of<M, const PRECISION: usize>(
     alloc: Global,
     model: M,
@@ -119,8 +125,10 @@ where
     M::Symbol: Hash + Eq + Drop,
     requires clones { ClonesAreEqual M.Symbol.eq M.stands_for }
     requires distinct { IsDistinct M.Symbol.eq (symbols_of (M.rows model)) }
-    ensures rows { IfOk result (λ both. StandForRows M.stands_for (decoder_model_rows both.0) (M.rows model)) }
-    ensures alike { IfOk result (λ both. SameEntries M.Symbol.eq (encoder_model_rows both.1) (decoder_model_rows both.0)) }
+    ensures rows { IfOk result (λ both.
+        StandForRows M.stands_for (decoder_model_rows both.0) (M.rows model)) }
+    ensures alike { IfOk result (λ both.
+        SameEntries M.Symbol.eq (encoder_model_rows both.1) (decoder_model_rows both.0)) }
     ensures refused { IfErr result (λ e. e ≡ ModelError.OutOfMemory) }
 {
     let decoder = to_generic_decoder_model_of_distinct::<M, PRECISION>(alloc, model)?;
@@ -133,8 +141,10 @@ pub(crate) fn both_of_contiguous<Probability: WholeNumber, const PRECISION: usiz
     alloc: Global,
     model: &Contiguous<Probability, PRECISION>,
 ) -> Result<DecoderAndEncoder<usize, Probability, PRECISION>, ModelError>
-    ensures rows { IfOk result (λ both. decoder_model_rows both.0 ≡ contiguous_model_rows model.now) }
-    ensures entries { IfOk result (λ both. SameEntries nat_eq (encoder_model_rows both.1) (contiguous_model_rows model.now)) }
+    ensures rows { IfOk result (λ both.
+        decoder_model_rows both.0 ≡ contiguous_model_rows model.now) }
+    ensures entries { IfOk result (λ both.
+        SameEntries nat_eq (encoder_model_rows both.1) (contiguous_model_rows model.now)) }
     ensures refused { IfErr result (λ e. e ≡ ModelError.OutOfMemory) }
 {
     contiguous_symbols_differ();

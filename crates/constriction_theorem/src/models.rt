@@ -18,8 +18,9 @@ use constriction_words::{IndexWord, WholeNumber};
 use std::alloc::Global;
 use std::hash::Hash;
 
-/// Makes the searching decoder and the hashed encoder of the rows of any model that can be walked through,
-/// converts the decoder by any steps, and answers queries by the form that they leave and by the encoder.
+/// Makes the searching decoder and the hashed encoder of the rows of any model that can be walked
+/// through, converts the decoder by any steps, and answers queries by the form that they leave and
+/// by the encoder.
 pub fn answer_by_symbol_table<M, const PRECISION: usize>(
     alloc: Global,
     model: M,
@@ -35,8 +36,9 @@ where
     requires clones { ClonesAreEqual M.Symbol.eq M.Symbol.is_clone }
     requires distinct { IsDistinct M.Symbol.eq (symbols_of (M.rows model)) }
     ensures answers { IfOk result (λ both. AnswersAfter M.stands_for M.Symbol.is_clone
-        (replies_by_scan PRECISION M.Probability.whole M.Symbol.eq queries.now) steps.now false (M.rows model)
-        (is_lookup both.0) (form_rows both.0) (map (in_numbers M.Probability.whole M.Probability.base) both.1.items)) }
+        (replies_by_scan PRECISION M.Probability.whole M.Symbol.eq queries.now) steps.now false
+        (M.rows model) (is_lookup both.0) (form_rows both.0)
+        (map (in_numbers M.Probability.whole M.Probability.base) both.1.items)) }
     ensures refused { IfErr result (λ e. e ≡ ModelError.OutOfMemory) }
 {
     let (decoder, encoder) = both_of::<M, PRECISION>(alloc, model)?;
@@ -60,8 +62,9 @@ pub struct AnswersOfModel<Symbol, Word: WholeNumber, Form> {
     pub converted: Vec<Reply<Symbol, Word>>,
 }
 
-/// Answers queries by any decoder that can be walked through, and by the hashed encoder that is made of it. The decoder
-/// may search, divide or look up. The call makes no lookup table, so it takes any word and any `PRECISION`.
+/// Answers queries by any decoder that can be walked through, and by the hashed encoder that is
+/// made of it. The decoder may search, divide or look up. The call makes no lookup table, so it
+/// takes any word and any `PRECISION`.
 pub fn answer_beside_encoder<M, const PRECISION: usize>(
     alloc: Global,
     model: M,
@@ -81,8 +84,8 @@ where
     Ok(replies)
 }
 
-/// Answers queries by a model as [`answer_beside_encoder`] does, and as [`answer_by_symbol_table`] does. The model
-/// may be the caller's own: the proof needs only the laws of its traits.
+/// Answers queries by a model as [`answer_beside_encoder`] does, and as [`answer_by_symbol_table`]
+/// does. The model may be the caller's own: the proof needs only the laws of its traits.
 pub fn answer_by_model<M, const PRECISION: usize>(
     alloc: Global,
     model: M,
@@ -103,9 +106,10 @@ where
     ensures by_model { IfOk result (λ answers. AreRepliesOf M.DecoderModel.stands_for
         (replies_by_scan PRECISION M.Probability.whole M.Symbol.eq queries.now (M.rows model))
         (map (in_numbers M.Probability.whole M.Probability.base) answers.by_model.items)) }
-    ensures converted { IfOk result (λ answers. AnswersAfter M.IterableEntropyModel.stands_for M.Symbol.is_clone
-        (replies_by_scan PRECISION M.Probability.whole M.Symbol.eq queries.now) steps.now false (M.rows model) (is_lookup answers.form)
-        (form_rows answers.form) (map (in_numbers M.Probability.whole M.Probability.base) answers.converted.items)) }
+    ensures converted { IfOk result (λ answers. AnswersAfter M.IterableEntropyModel.stands_for
+        M.Symbol.is_clone (replies_by_scan PRECISION M.Probability.whole M.Symbol.eq queries.now)
+        steps.now false (M.rows model) (is_lookup answers.form) (form_rows answers.form)
+        (map (in_numbers M.Probability.whole M.Probability.base) answers.converted.items)) }
     ensures refused { IfErr result (λ e. e ≡ ModelError.OutOfMemory) }
 {
     let by_model = answer_beside_encoder::<M, PRECISION>(alloc, model, queries)?;

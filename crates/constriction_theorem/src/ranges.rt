@@ -12,8 +12,8 @@ use constriction_model::{EntropyModel, ModelError, UniformModel};
 use constriction_words::{IndexWord, WholeNumber};
 use std::alloc::Global;
 
-/// Answers queries by a dividing model as decoder and encoder, and by the form that steps make of the searching decoder of
-/// its rows, beside the hashed encoder.
+/// Answers queries by a dividing model as decoder and encoder, and by the form that steps make of
+/// the searching decoder of its rows, beside the hashed encoder.
 pub fn answer_by_uniform_model<Probability: IndexWord, const PRECISION: usize>(
     alloc: Global,
     model: &UniformModel<Probability, PRECISION>,

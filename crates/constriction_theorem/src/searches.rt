@@ -34,7 +34,8 @@ fn asked_by_search<Probability: WholeNumber, const PRECISION: usize>(
     queries: &[Query<usize, Probability>],
 ) -> Result<AnswersBySearch<Probability, Searching<usize, Probability, PRECISION>>, ModelError>
     ensures ok { IfOk result (BothReplyAsScan (in_numbers Probability.whole Probability.base)
-        (replies_by_scan PRECISION Probability.whole nat_eq queries.now) decoder_model_rows (contiguous_model_rows model.now)) }
+        (replies_by_scan PRECISION Probability.whole nat_eq queries.now) decoder_model_rows
+        (contiguous_model_rows model.now)) }
     ensures refused { IfErr result (λ e. e ≡ ModelError.OutOfMemory) }
 {
     let (decoder, hashed) = both_of_contiguous(alloc, model)?;
@@ -47,8 +48,8 @@ fn asked_by_search<Probability: WholeNumber, const PRECISION: usize>(
     })
 }
 
-/// As [`answer_from_weights`](crate::answer_from_weights), by models without lookup tables and over any word: the
-/// model of the symbols 0, 1, .. and the decoder over any symbols of its rows.
+/// As [`answer_from_weights`](crate::answer_from_weights), by models without lookup tables and over
+/// any word: the model of the symbols 0, 1, .. and the decoder over any symbols of its rows.
 pub fn answer_from_weights_by_search<Probability: WholeNumber, const PRECISION: usize>(
     alloc: Global,
     weights: Vec<Probability>,
@@ -67,9 +68,11 @@ pub fn answer_from_weights_by_search<Probability: WholeNumber, const PRECISION: 
     ModelError,
 >
     requires precision { IsPrecision Probability.BITS PRECISION }
-    ensures { let all = completed PRECISION infer_last_probability (map Probability.whole weights.items) in
-        IsDecidedBy result (IsAccepted Probability.BITS PRECISION all) (BothReplyAsScan (in_numbers Probability.whole Probability.base)
-        (replies_by_scan PRECISION Probability.whole nat_eq queries.now) decoder_model_rows (contiguous_rows all)) }
+    ensures { let all =
+        completed PRECISION infer_last_probability (map Probability.whole weights.items)
+        in IsDecidedBy result (IsAccepted Probability.BITS PRECISION all)
+        (BothReplyAsScan (in_numbers Probability.whole Probability.base) (replies_by_scan PRECISION
+        Probability.whole nat_eq queries.now) decoder_model_rows (contiguous_rows all)) }
 {
     let model = contiguous_from::<Probability, PRECISION>(alloc, weights, infer_last_probability)?;
     asked_by_search(alloc, &model, queries)

@@ -18,8 +18,9 @@ use constriction_words::IndexWord;
 use std::alloc::Global;
 use std::hash::Hash;
 
-/// Makes the searching decoder of symbols and weights and the hashed encoder of the same rows, converts the
-/// decoder by any steps, and answers queries by the form that they leave and by the encoder.
+/// Makes the searching decoder of symbols and weights and the hashed encoder of the same rows,
+/// converts the decoder by any steps, and answers queries by the form that they leave and by the
+/// encoder.
 pub fn answer_from_symbols_and_weights<
     Symbol: Hash + Eq + Clone + Drop,
     Probability: IndexWord,
@@ -34,10 +35,12 @@ pub fn answer_from_symbols_and_weights<
 ) -> Result<FormAndReplies<Symbol, Probability, PRECISION>, ModelError>
     requires precision { IsLookupPrecision Probability.BITS PRECISION }
     requires clones { ClonesAreEqual Symbol.eq Symbol.is_clone }
-    ensures { let all = completed PRECISION infer_last_probability (map Probability.whole weights.items) in
-        IsDecidedBy result (AreAccepted Symbol.eq Probability.BITS PRECISION symbols.items all)
-        (λ x. AnswersAfter (λ s t. t ≡ s) Symbol.is_clone (replies_by_scan PRECISION Probability.whole Symbol.eq queries.now)
-        steps.now false (rows_of symbols.items all) (is_lookup x.0) (form_rows x.0)
+    ensures { let all =
+        completed PRECISION infer_last_probability (map Probability.whole weights.items)
+        in IsDecidedBy result (AreAccepted Symbol.eq Probability.BITS PRECISION symbols.items all)
+        (λ x. AnswersAfter (λ s t. t ≡ s) Symbol.is_clone
+        (replies_by_scan PRECISION Probability.whole Symbol.eq queries.now) steps.now false
+        (rows_of symbols.items all) (is_lookup x.0) (form_rows x.0)
         (map (in_numbers Probability.whole Probability.base) x.1.items)) }
 {
     let searching = searching_from::<Symbol, Probability, PRECISION>(

@@ -57,10 +57,13 @@ where
     requires same { ClonesAreSame D.stands_for }
     requires contiguous { SameEntries E.symbol_eq (E.rows contiguous.now) (D.rows decoder.now) }
     requires hashed { SameEntries F.symbol_eq (F.rows hashed.now) (D.rows decoder.now) }
-    ensures contiguous { IfOk result (λ replies. map (in_numbers D.Probability.whole D.Probability.base) replies.contiguous.items
-        ≡ replies_by_scan PRECISION D.Probability.whole E.symbol_eq queries.now (D.rows decoder.now)) }
-    ensures hashed { IfOk result (λ replies. map (in_numbers D.Probability.whole D.Probability.base) replies.hashed.items
-        ≡ replies_by_scan PRECISION D.Probability.whole F.symbol_eq queries.now (D.rows decoder.now)) }
+    ensures contiguous { IfOk result (λ replies.
+        map (in_numbers D.Probability.whole D.Probability.base) replies.contiguous.items
+        ≡ replies_by_scan PRECISION D.Probability.whole E.symbol_eq queries.now
+        (D.rows decoder.now)) }
+    ensures hashed { IfOk result (λ replies. map (in_numbers D.Probability.whole D.Probability.base)
+        replies.hashed.items ≡ replies_by_scan PRECISION D.Probability.whole F.symbol_eq queries.now
+        (D.rows decoder.now)) }
 {
     let beside_contiguous = answer_queries(alloc, decoder, contiguous, queries)?;
     let beside_hashed = answer_queries(alloc, decoder, hashed, queries)?;
@@ -101,7 +104,8 @@ fn converted_from<Probability: IndexWord, const PRECISION: usize>(
     requires narrow { PRECISION ≤ 63 }
     ensures kind { IfOk result (λ both. is_lookup both.0 ≡ fold is_lookup_after false steps.now) }
     ensures rows { IfOk result (λ both. form_rows both.0 ≡ contiguous_model_rows model.now) }
-    ensures entries { IfOk result (λ both. SameEntries nat_eq (encoder_model_rows both.1) (contiguous_model_rows model.now)) }
+    ensures entries { IfOk result (λ both.
+        SameEntries nat_eq (encoder_model_rows both.1) (contiguous_model_rows model.now)) }
     ensures refused { IfErr result (λ e. e ≡ ModelError.OutOfMemory) }
 {
     let (decoder, hashed) = both_of_contiguous(alloc, model)?;
@@ -117,9 +121,11 @@ fn asked_by_slots<Probability: IndexWord, const PRECISION: usize, const SLOT_BIT
     queries: &[Query<usize, Probability>],
 ) -> Result<RepliesByEncoder<Probability>, ModelError>
     requires narrow { PRECISION ≤ 63 }
-    requires hashed { SameEntries nat_eq (encoder_model_rows hashed.now) (contiguous_model_rows model.now) }
-    ensures ok { IfOk result (ReplyAsScan (in_numbers Probability.whole Probability.base)
-        (replies_by_scan PRECISION Probability.whole nat_eq queries.now (contiguous_model_rows model.now))) }
+    requires hashed { SameEntries nat_eq (encoder_model_rows hashed.now)
+        (contiguous_model_rows model.now) }
+    ensures ok { IfOk result
+        (ReplyAsScan (in_numbers Probability.whole Probability.base) (replies_by_scan PRECISION
+        Probability.whole nat_eq queries.now (contiguous_model_rows model.now))) }
     ensures refused { IfErr result (λ e. e ≡ ModelError.OutOfMemory) }
 {
     let tabled = model.to_slotted_lookup_decoder_model::<SLOT_BITS>(alloc)?;
@@ -127,7 +133,8 @@ fn asked_by_slots<Probability: IndexWord, const PRECISION: usize, const SLOT_BIT
     Ok(replies)
 }
 
-/// The replies of the model that searches, of the model with a lookup table, and of a form of the same rows.
+/// The replies of the model that searches, of the model with a lookup table, and of a form of the
+/// same rows.
 fn asked_by_each<Probability: IndexWord, const PRECISION: usize, const SLOT_BITS: usize>(
     alloc: Global,
     model: &Contiguous<Probability, PRECISION>,
@@ -144,10 +151,12 @@ fn asked_by_each<Probability: IndexWord, const PRECISION: usize, const SLOT_BITS
 >
     requires narrow { PRECISION ≤ 63 }
     requires form { form_rows form.now ≡ contiguous_model_rows model.now }
-    requires hashed { SameEntries nat_eq (encoder_model_rows hashed.now) (contiguous_model_rows model.now) }
-    ensures ok { IfOk result (λ three. let AsScan = ReplyAsScan (in_numbers Probability.whole Probability.base)
-        (replies_by_scan PRECISION Probability.whole nat_eq queries.now (contiguous_model_rows model.now)) in
-        AsScan three.0 × AsScan three.1 × AsScan three.2) }
+    requires hashed { SameEntries nat_eq (encoder_model_rows hashed.now)
+        (contiguous_model_rows model.now) }
+    ensures ok { IfOk result (λ three. let AsScan =
+        ReplyAsScan (in_numbers Probability.whole Probability.base) (replies_by_scan PRECISION
+        Probability.whole nat_eq queries.now (contiguous_model_rows model.now))
+        in AsScan three.0 × AsScan three.1 × AsScan three.2) }
     ensures refused { IfErr result (λ e. e ≡ ModelError.OutOfMemory) }
 {
     let by_search = asked_beside_both(alloc, model, model, hashed, queries)?;
@@ -165,7 +174,8 @@ fn answers_of<Probability: IndexWord, const PRECISION: usize, const SLOT_BITS: u
 ) -> Result<AnswersOfWeights<Probability, DecoderForm<usize, Probability, PRECISION>>, ModelError>
     requires narrow { PRECISION ≤ 63 }
     ensures ok { IfOk result (AllReplyAsScan (in_numbers Probability.whole Probability.base)
-        (replies_by_scan PRECISION Probability.whole nat_eq queries.now) steps.now form_rows (contiguous_model_rows model.now)) }
+        (replies_by_scan PRECISION Probability.whole nat_eq queries.now) steps.now form_rows
+        (contiguous_model_rows model.now)) }
     ensures refused { IfErr result (λ e. e ≡ ModelError.OutOfMemory) }
 {
     let (form, hashed) = converted_from(alloc, model, steps)?;
@@ -180,9 +190,10 @@ fn answers_of<Probability: IndexWord, const PRECISION: usize, const SLOT_BITS: u
     })
 }
 
-/// Makes three models of a list of weights: one that searches, one with a lookup table of `2^min(PRECISION, SLOT_BITS)`
-/// slots, and a decoder over any symbols, which it converts by any steps. It answers the same queries by each, beside the
-/// model that searches and beside the hashed encoder.
+/// Makes three models of a list of weights: one that searches, one with a lookup table of
+/// `2^min(PRECISION, SLOT_BITS)` slots, and a decoder over any symbols, which it converts by any
+/// steps. It answers the same queries by each, beside the model that searches and beside the hashed
+/// encoder.
 ///
 /// The lookup table takes two words a slot, or one if a slot is one quantile. At any `PRECISION`,
 /// [`answer_from_weights_by_search`](crate::answer_from_weights_by_search) makes no lookup tables.
@@ -194,9 +205,11 @@ pub fn answer_from_weights<Probability: IndexWord, const PRECISION: usize, const
     queries: &[Query<usize, Probability>],
 ) -> Result<AnswersOfWeights<Probability, DecoderForm<usize, Probability, PRECISION>>, ModelError>
     requires precision { IsLookupPrecision Probability.BITS PRECISION }
-    ensures { let all = completed PRECISION infer_last_probability (map Probability.whole weights.items) in
-        IsDecidedBy result (IsAccepted Probability.BITS PRECISION all) (AllReplyAsScan (in_numbers Probability.whole Probability.base)
-        (replies_by_scan PRECISION Probability.whole nat_eq queries.now) steps.now form_rows (contiguous_rows all)) }
+    ensures { let all =
+        completed PRECISION infer_last_probability (map Probability.whole weights.items)
+        in IsDecidedBy result (IsAccepted Probability.BITS PRECISION all)
+        (AllReplyAsScan (in_numbers Probability.whole Probability.base) (replies_by_scan PRECISION
+        Probability.whole nat_eq queries.now) steps.now form_rows (contiguous_rows all)) }
 {
     let model = contiguous_from::<Probability, PRECISION>(alloc, weights, infer_last_probability)?;
     answers_of::<_, PRECISION, SLOT_BITS>(alloc, &model, steps, queries)

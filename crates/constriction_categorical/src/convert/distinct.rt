@@ -27,7 +27,8 @@ where
     M::Symbol: Eq + Drop,
     requires clones { ClonesAreEqual M.Symbol.eq M.stands_for }
     requires differ { IsDistinct M.Symbol.eq (symbols_of (M.rows model)) }
-    ensures stored { IfOk result (λ v. IsStored M.Probability.BITS PRECISION (map (λ x. M.Probability.whole x.0) v.items)) }
+    ensures stored { IfOk result (λ v.
+        IsStored M.Probability.BITS PRECISION (map (λ x. M.Probability.whole x.0) v.items)) }
     ensures distinct { IfOk result (λ v. IsDistinct M.Symbol.eq (map (λ x. x.1) v.items)) }
     ensures rows { IfOk result (λ v. StandApart M.Symbol.eq M.stands_for
         (rows_paired M.Probability.whole PRECISION v.items) (M.rows model)) }
@@ -37,10 +38,11 @@ where
     Ok(entries)
 }
 
-/// The decoder model with the rows of a model with no two equal symbols. The functions of `laws` say so of each
-/// contiguous or uniform model, and of each decoder over any symbols.
+/// The decoder model with the rows of a model with no two equal symbols. The functions of `laws`
+/// say so of each contiguous or uniform model, and of each decoder over any symbols.
 ///
-/// Its symbols are those that the walk gives. `OutOfMemory` comes if memory for the entries or for a clone is refused.
+/// Its symbols are those that the walk gives. `OutOfMemory` comes if memory for the entries or for
+/// a clone is refused.
 ///
 /// One walk, and one allocation if the walk announces the number of rows. No symbols are compared.
 pub fn to_generic_decoder_model_of_distinct<M, const PRECISION: usize>(
@@ -52,7 +54,8 @@ where
     M::Symbol: Eq + Drop,
     requires clones { ClonesAreEqual M.Symbol.eq M.stands_for }
     requires distinct { IsDistinct M.Symbol.eq (symbols_of (M.rows model)) }
-    ensures { IsMadeIfMemorySuffices (λ d. StandApart M.Symbol.eq M.stands_for (decoder_model_rows d) (M.rows model)) result }
+    ensures { IsMadeIfMemorySuffices
+        (λ d. StandApart M.Symbol.eq M.stands_for (decoder_model_rows d) (M.rows model)) result }
 {
     match uncompared_entries_of_model(alloc, model) {
         Ok(entries) => Ok(decoder_over(entries)),
@@ -60,8 +63,8 @@ where
     }
 }
 
-/// The lookup model of the decoder that [`to_generic_decoder_model_of_distinct`] makes. `OutOfMemory` comes also if memory
-/// for the lookup table is refused.
+/// The lookup model of the decoder that [`to_generic_decoder_model_of_distinct`] makes.
+/// `OutOfMemory` comes also if memory for the lookup table is refused.
 ///
 /// Two passes over the rows follow the walk.
 pub fn to_generic_lookup_decoder_model_of_distinct<M, const PRECISION: usize>(
@@ -75,7 +78,8 @@ where
     requires narrow { PRECISION ≤ 63 }
     requires clones { ClonesAreEqual M.Symbol.eq M.stands_for }
     requires distinct { IsDistinct M.Symbol.eq (symbols_of (M.rows model)) }
-    ensures { IsMadeIfMemorySuffices (λ d. StandApart M.Symbol.eq M.stands_for (lookup_model_rows d) (M.rows model)) result }
+    ensures { IsMadeIfMemorySuffices
+        (λ d. StandApart M.Symbol.eq M.stands_for (lookup_model_rows d) (M.rows model)) result }
 {
     match to_generic_decoder_model_of_distinct::<M, PRECISION>(alloc, model) {
         Ok(searching) => searching.into_lookup_decoder_model(alloc),

@@ -48,10 +48,12 @@ where
     R: ReadWords<D::Probability, S, ReadError = Infallible>,
     requires can_read { R.can_read source.old }
     requires come { QuantilesCome PRECISION D.Probability.whole R.tells_upcoming count source.old }
-    ensures ok { IfOk result (λ pairs. (words : List D.Probability) → ComeNext R.tells_upcoming source.old words
-        → length words ≡ count → ArePairs D.stands_for (D.rows decoder.now) D.Probability.whole words pairs.items
+    ensures ok { IfOk result (λ pairs. (words : List D.Probability)
+        → ComeNext R.tells_upcoming source.old words → length words ≡ count
+        → ArePairs D.stands_for (D.rows decoder.now) D.Probability.whole words pairs.items
         × Reads R.read_gives source.old words source.new) }
-    ensures err { OnErr result ((words : List D.Probability) × Reads R.read_gives source.old words source.new) }
+    ensures err { OnErr result
+        ((words : List D.Probability) × Reads R.read_gives source.old words source.new) }
 {
     let mut pairs = Vec::new(alloc);
     match read_symbols::<S, _, _, PRECISION>(decoder, source, count, &mut pairs) {
@@ -75,7 +77,8 @@ where
     D::Symbol: Drop,
     E: EncoderModel<PRECISION, Symbol = D::Symbol, Probability = D::Probability>,
     requires alike { SameEntries E.symbol_eq (E.rows encoder.now) (D.rows decoder.now) }
-    ensures ok { IfOk result (λ pairs. StandForItems D.stands_for E.symbol_eq (reverse items.now) pairs.items) }
+    ensures ok { IfOk result (λ pairs.
+        StandForItems D.stands_for E.symbol_eq (reverse items.now) pairs.items) }
     ensures fault { (fault : QuantileFault) → result ≡ Err (CoderError.Frontend fault)
         → HasFault (entry_of E.symbol_eq (E.rows encoder.now)) D.Probability.whole items.now fault }
 {
@@ -96,16 +99,17 @@ pub fn there_and_back<M, const PRECISION: usize>(
 where
     M: EncoderModel<PRECISION> + DecoderModel<PRECISION>,
     M::Symbol: Drop,
-    ensures ok { IfOk result (λ pairs. StandForItems M.stands_for M.symbol_eq (reverse items.now) pairs.items) }
+    ensures ok { IfOk result (λ pairs.
+        StandForItems M.stands_for M.symbol_eq (reverse items.now) pairs.items) }
     ensures fault { (fault : QuantileFault) → result ≡ Err (CoderError.Frontend fault)
         → HasFault (entry_of M.symbol_eq (M.rows model.now)) M.Probability.whole items.now fault }
 {
     there_and_back_of_two(alloc, model, model, items)
 }
 
-/// Makes the decoder model of a model's rows, and the hashed encoder model of its entries. If the model
-/// owns its symbols, both have clones of them. The two agree, as [`there_and_back_of_two`] and
-/// [`there_and_back_in_a_cursor`] require. The model is walked through twice.
+/// Makes the decoder model of a model's rows, and the hashed encoder model of its entries. If the
+/// model owns its symbols, both have clones of them. The two agree, as [`there_and_back_of_two`]
+/// and [`there_and_back_in_a_cursor`] require. The model is walked through twice.
 pub fn decoder_and_encoder<M, const PRECISION: usize>(
     alloc: Global,
     model: M,
@@ -115,9 +119,12 @@ where
     M::Symbol: Hash + Eq + Drop,
     requires clones { ClonesAreEqual M.Symbol.eq M.stands_for }
     requires equality { M.is_equality M.Symbol.eq }
-    ensures rows { IfOk result (λ both. StandForRows M.stands_for (decoder_model_rows both.0) (M.rows model)) }
-    ensures alike { IfOk result (λ both. SameEntries M.Symbol.eq (encoder_model_rows both.1) (decoder_model_rows both.0)) }
-    ensures invalid { result ≡ Err ModelError.InvalidTable → ¬ (IsDistinct M.Symbol.eq (symbols_of (M.rows model))) }
+    ensures rows { IfOk result (λ both.
+        StandForRows M.stands_for (decoder_model_rows both.0) (M.rows model)) }
+    ensures alike { IfOk result (λ both.
+        SameEntries M.Symbol.eq (encoder_model_rows both.1) (decoder_model_rows both.0)) }
+    ensures invalid { result ≡ Err ModelError.InvalidTable
+        → ¬ (IsDistinct M.Symbol.eq (symbols_of (M.rows model))) }
 {
     let decoder = to_generic_decoder_model::<M, PRECISION>(alloc, model)?;
     let encoder = to_generic_encoder_model::<M, PRECISION>(alloc, model)?;
@@ -133,10 +140,10 @@ fn write_and_go_back<E, Buf, const PRECISION: usize>(
 where
     E: EncoderModel<PRECISION>,
     Buf: SafeBufMut<E::Probability>,
-    ensures ok { OnOk result (GoesBack (entry_of E.symbol_eq (E.rows encoder.now)) E.Probability.whole Buf.with_words
-        cursor.old items.now cursor.new) }
-    ensures err { IfErr result (λ error. EndsPlacing (entry_of E.symbol_eq (E.rows encoder.now)) E.Probability.whole
-        Buf.with_words cursor.old items.now error cursor.new) }
+    ensures ok { OnOk result (GoesBack (entry_of E.symbol_eq (E.rows encoder.now))
+        E.Probability.whole Buf.with_words cursor.old items.now cursor.new) }
+    ensures err { IfErr result (λ error. EndsPlacing (entry_of E.symbol_eq (E.rows encoder.now))
+        E.Probability.whole Buf.with_words cursor.old items.now error cursor.new) }
 {
     extending_overwrites::<E::Probability, Buf, BoundedWriteError>();
     let start = cursor.pos();
@@ -153,8 +160,8 @@ where
     }
 }
 
-/// Writes items to a cursor by the encoder, seeks back to where they begin, and reads them as a queue
-/// by the decoder. They come back in their order.
+/// Writes items to a cursor by the encoder, seeks back to where they begin, and reads them as a
+/// queue by the decoder. They come back in their order.
 ///
 /// It fails with `Frontend` at the first item that has no quantile, with `Write` at the first one
 /// whose quantile finds no place, and with `Read` if memory is refused. After `Frontend` or `Write`
@@ -173,11 +180,12 @@ where
     E: EncoderModel<PRECISION, Symbol = D::Symbol, Probability = D::Probability>,
     Buf: SafeBufMut<D::Probability>,
     requires alike { SameEntries E.symbol_eq (E.rows encoder.now) (D.rows decoder.now) }
-    ensures ok { IfOk result (λ pairs. StandForItems D.stands_for E.symbol_eq items.now pairs.items) }
-    ensures placed { OnOk result (PlacesItems (entry_of E.symbol_eq (E.rows encoder.now)) D.Probability.whole
-        Buf.with_words cursor.old items.now cursor.new) }
-    ensures err { IfErr result (λ error. EndsPlacing (entry_of E.symbol_eq (E.rows encoder.now)) D.Probability.whole
-        Buf.with_words cursor.old items.now error cursor.new) }
+    ensures ok { IfOk result (λ pairs.
+        StandForItems D.stands_for E.symbol_eq items.now pairs.items) }
+    ensures placed { OnOk result (PlacesItems (entry_of E.symbol_eq (E.rows encoder.now))
+        D.Probability.whole Buf.with_words cursor.old items.now cursor.new) }
+    ensures err { IfErr result (λ error. EndsPlacing (entry_of E.symbol_eq (E.rows encoder.now))
+        D.Probability.whole Buf.with_words cursor.old items.now error cursor.new) }
 {
     write_and_go_back(encoder, items, cursor)?;
     match read_back::<Queue, _, _, PRECISION>(alloc, decoder, cursor, items.len()) {

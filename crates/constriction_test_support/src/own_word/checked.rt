@@ -41,8 +41,8 @@ impl CheckedMul for Sample {
 }
 
 impl CheckedDiv for Sample {
-    ghost checked_div_gives = { λ a b r. Divides (λ s. pos s.0) (FitsUnsignedBits 16) (pos b.0 ≢ pos 0)
-        (pos (a.0 / b.0)) (pos (a.0 / b.0)) r };
+    ghost checked_div_gives = { λ a b r. Divides (λ s. pos s.0) (FitsUnsignedBits 16)
+        (pos b.0 ≢ pos 0) (pos (a.0 / b.0)) (pos (a.0 / b.0)) r };
 
     fn checked_div(&self, other: &Sample) -> Option<Sample> {
         self.0.checked_div(other.0).map(Sample)

@@ -46,8 +46,9 @@ impl NonZeroBitArray for NonZeroSample {
 
     ghost nonzero_law = { λ x e. pos-nonzero x.sample.0 x.positive e };
 
-    ghost same_law = { λ a b e. same-above-0 (λ n h. record { sample = record { 0 = n }; positive = h })
-        a.positive b.positive (ap (λ s. s.0) e) };
+    ghost same_law = { λ a b e.
+        same-above-0 (λ n h. record { sample = record { 0 = n }; positive = h }) a.positive
+        b.positive (ap (λ s. s.0) e) };
 
     ghost eq_law = { λ a b. let equal = Decides-eqb a.sample.0 b.sample.0 in
         ((λ h. ap (λ n. record { 0 = n }) (equal.0 h)), (λ e. equal.1 (ap (λ s. s.0) e))) };

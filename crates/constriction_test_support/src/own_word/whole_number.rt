@@ -92,6 +92,7 @@ impl WholeNumber for Sample {
 
     ghost weight_law = { λ x. x.positive };
 
-    ghost same_weight_law = { λ a b e. same-above-0 (λ n h. record { sample = record { 0 = n }; positive = h })
-        a.positive b.positive (ap (λ s. s.0) e) };
+    ghost same_weight_law = { λ a b e.
+        same-above-0 (λ n h. record { sample = record { 0 = n }; positive = h }) a.positive
+        b.positive (ap (λ s. s.0) e) };
 }
