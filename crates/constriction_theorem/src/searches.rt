@@ -68,11 +68,12 @@ pub fn answer_from_weights_by_search<Probability: WholeNumber, const PRECISION: 
     ModelError,
 >
     requires precision { IsPrecision Probability.BITS PRECISION }
-    ensures { let all =
-        completed PRECISION infer_last_probability (map Probability.whole weights.items)
-        in IsDecidedBy result (IsAccepted Probability.BITS PRECISION all)
-        (BothReplyAsScan (in_numbers Probability.whole Probability.base) (replies_by_scan PRECISION
-        Probability.whole nat_eq queries.now) decoder_model_rows (contiguous_rows all)) }
+    ensures { let all = completed PRECISION infer_last_probability
+        (map Probability.whole weights.items) in
+        IsDecidedBy result (IsAccepted Probability.BITS PRECISION all)
+        (BothReplyAsScan (in_numbers Probability.whole Probability.base)
+        (replies_by_scan PRECISION Probability.whole nat_eq queries.now)
+        decoder_model_rows (contiguous_rows all)) }
 {
     let model = contiguous_from::<Probability, PRECISION>(alloc, weights, infer_last_probability)?;
     asked_by_search(alloc, &model, queries)

@@ -35,9 +35,9 @@ pub fn answer_from_symbols_and_weights<
 ) -> Result<FormAndReplies<Symbol, Probability, PRECISION>, ModelError>
     requires precision { IsLookupPrecision Probability.BITS PRECISION }
     requires clones { ClonesAreEqual Symbol.eq Symbol.is_clone }
-    ensures { let all =
-        completed PRECISION infer_last_probability (map Probability.whole weights.items)
-        in IsDecidedBy result (AreAccepted Symbol.eq Probability.BITS PRECISION symbols.items all)
+    ensures { let all = completed PRECISION infer_last_probability
+        (map Probability.whole weights.items) in
+        IsDecidedBy result (AreAccepted Symbol.eq Probability.BITS PRECISION symbols.items all)
         (λ x. AnswersAfter (λ s t. t ≡ s) Symbol.is_clone
         (replies_by_scan PRECISION Probability.whole Symbol.eq queries.now) steps.now false
         (rows_of symbols.items all) (is_lookup x.0) (form_rows x.0)

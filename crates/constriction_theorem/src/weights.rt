@@ -153,10 +153,11 @@ fn asked_by_each<Probability: IndexWord, const PRECISION: usize, const SLOT_BITS
     requires form { form_rows form.now ≡ contiguous_model_rows model.now }
     requires hashed { SameEntries nat_eq (encoder_model_rows hashed.now)
         (contiguous_model_rows model.now) }
-    ensures ok { IfOk result (λ three. let AsScan =
-        ReplyAsScan (in_numbers Probability.whole Probability.base) (replies_by_scan PRECISION
-        Probability.whole nat_eq queries.now (contiguous_model_rows model.now))
-        in AsScan three.0 × AsScan three.1 × AsScan three.2) }
+    ensures ok { IfOk result (λ three.
+        let AsScan = ReplyAsScan (in_numbers Probability.whole Probability.base)
+        (replies_by_scan PRECISION Probability.whole nat_eq queries.now
+        (contiguous_model_rows model.now)) in
+        AsScan three.0 × AsScan three.1 × AsScan three.2) }
     ensures refused { IfErr result (λ e. e ≡ ModelError.OutOfMemory) }
 {
     let by_search = asked_beside_both(alloc, model, model, hashed, queries)?;
@@ -205,11 +206,12 @@ pub fn answer_from_weights<Probability: IndexWord, const PRECISION: usize, const
     queries: &[Query<usize, Probability>],
 ) -> Result<AnswersOfWeights<Probability, DecoderForm<usize, Probability, PRECISION>>, ModelError>
     requires precision { IsLookupPrecision Probability.BITS PRECISION }
-    ensures { let all =
-        completed PRECISION infer_last_probability (map Probability.whole weights.items)
-        in IsDecidedBy result (IsAccepted Probability.BITS PRECISION all)
-        (AllReplyAsScan (in_numbers Probability.whole Probability.base) (replies_by_scan PRECISION
-        Probability.whole nat_eq queries.now) steps.now form_rows (contiguous_rows all)) }
+    ensures { let all = completed PRECISION infer_last_probability
+        (map Probability.whole weights.items) in
+        IsDecidedBy result (IsAccepted Probability.BITS PRECISION all)
+        (AllReplyAsScan (in_numbers Probability.whole Probability.base)
+        (replies_by_scan PRECISION Probability.whole nat_eq queries.now) steps.now form_rows
+        (contiguous_rows all)) }
 {
     let model = contiguous_from::<Probability, PRECISION>(alloc, weights, infer_last_probability)?;
     answers_of::<_, PRECISION, SLOT_BITS>(alloc, &model, steps, queries)
