@@ -1,6 +1,6 @@
 //! Models of the symbols 0, 1, .., which find the row of a quantile by a search.
 
-ghost use Rattle.std.specs.Prelude.{◌≡◌, ◌+◌, ◌^◌, ◌<◌, ℕ, List, length, map, nat_eq, IfErr, IfOk, IsOkAnd, OnErr, OnOk, ⊤};
+ghost use Rattle.std.specs.Prelude.{◌≡◌, ◌^◌, ◌<◌, ℕ, List, length, map, nat_eq, IfErr, IfOk, IsOkAnd, OnErr, OnOk, ⊤};
 ghost use Rattle.std.specs.Iterator.{IsFiniteIterable};
 ghost use Rattle.constriction_model.specs.Acceptance.{completed, IsAccepted, IsDecidedByWeights};
 ghost use Rattle.std.specs.Cmp.{nat_eq_equiv};

@@ -1,6 +1,6 @@
 //! Models of the symbols 0, 1, .., which look up where to search for the row of a quantile.
 
-ghost use Rattle.std.specs.Prelude.{◌≡◌, ◌≤◌, map, IfOk, IfErr, nat_eq};
+ghost use Rattle.std.specs.Prelude.{◌≡◌, ◌≤◌, map, nat_eq};
 ghost use Rattle.std.specs.Iterator.{IsFiniteIterable};
 ghost use Rattle.constriction_model.specs.Acceptance.{completed, IsAccepted, IsDecidedByWeights};
 ghost use Rattle.constriction_model.specs.Precision.{IsLookupPrecision};

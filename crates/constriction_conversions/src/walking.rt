@@ -1,6 +1,6 @@
 //! Hashing the rows that a walk gives, for encoders made of other models.
 
-ghost use Rattle.std.specs.Prelude.{◌≡◌, ℕ, IfOk, map};
+ghost use Rattle.std.specs.Prelude.{ℕ, IfOk, map};
 ghost use Rattle.std.specs.HashMap.{get, IsUnique};
 ghost use Rattle.std.specs.Iterator.{IsFinite};
 ghost use Rattle.constriction_stored_rows.specs.private.Filling.{HoldsEntries};

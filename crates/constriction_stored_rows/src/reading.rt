@@ -1,6 +1,6 @@
 //! Reading rows from symbols and weights, for models that store symbols.
 
-ghost use Rattle.std.specs.Prelude.{◌≡◌, ◌+◌, ◌^◌, ◌<◌, ◌≤◌, ◌⊎◌, List, Bool, [], ◌∷◌, ◌++◌, IfOk, IsOk, true, false, map, Some, None};
+ghost use Rattle.std.specs.Prelude.{◌≡◌, ◌+◌, ◌^◌, ◌<◌, ◌⊎◌, List, Bool, [], ◌∷◌, ◌++◌, IfOk, IsOk, true, false, map, Some, None};
 ghost use Rattle.std.specs.Iterator.{IsFinite};
 ghost use Rattle.std.specs.List.{list_any};
 ghost use Rattle.constriction_model.specs.Acceptance.{completed, AreAccepted};

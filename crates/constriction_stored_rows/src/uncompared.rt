@@ -1,6 +1,6 @@
 //! Reading entries from symbols and weights without comparing symbols.
 
-ghost use Rattle.std.specs.Prelude.{◌<◌, ◌≤◌, false, refl};
+ghost use Rattle.std.specs.Prelude.{false, refl};
 ghost use Rattle.std.specs.Iterator.{IsFiniteIterable};
 ghost use Rattle.constriction_model.specs.Acceptance.{completed, AreAccepted, WasReadOf, IsMadeOfBoth};
 ghost use Rattle.constriction_model.specs.Precision.{IsPrecision};
