@@ -1,5 +1,5 @@
 -- Runs of symbols in their states: they grow at the end, are joined, and stop.
-use Rattle.std.proofs.Common.{◌≡◌, ℕ, ◌+◌, ◌<◌, suc, Bool, List, [], ◌∷◌, ◌++◌, fold, length, take, drop, get_or, Option, Result, refl, ap, inl, inr, sym, ◌∙◌, subst}
+use Rattle.std.proofs.Common.{◌≡◌, ℕ, ◌+◌, ◌<◌, suc, Bool, List, [], ◌∷◌, ◌++◌, fold, length, take, drop, get_or, refl, ap, sym, ◌∙◌, subst}
 use Rattle.std.specs.Prelude.{All}
 use Rattle.std.specs.List.{AllZip}
 use Rattle.std.proofs.lemmas.List.{take_more}
@@ -7,14 +7,10 @@ use Rattle.std.proofs.lemmas.List.Elements.{All-append, All-cons, All-nil}
 use Rattle.std.proofs.lemmas.List.Sums.{fold-append}
 use Rattle.constriction_model.specs.Coding.{InTurn}
 use Rattle.constriction_model.specs.Rows.{Row, RowsTile, entry_of}
-use Rattle.constriction_words.specs.declared.CoderError.TheVariants.{Frontend}
-use Rattle.constriction_coders.specs.Intervals.{Held, DecodesFromQueue, IsAboveAll}
-use Rattle.constriction_coders.specs.declared.queue.range_decoder.DecoderFrontendError.TheVariants.{InvalidData, OutOfMemory}
 use Rattle.constriction_coders.specs.Places.{placed, entry_at, IsDecodedAt}
 use Rattle.constriction_coders.specs.Spans.{Span, IsNarrowed}
 use Rattle.constriction_coders.proofs.Stopping.{split-at-symbol}
-use Rattle.constriction_adaptive.specs.Predicted.{entry_in, AllTile, AreCoded, DecodingStops, EncodingStops, IsNotDecoded}
-use Rattle.constriction_words.specs.declared.CoderError.{CoderError}
+use Rattle.constriction_adaptive.specs.Predicted.{entry_in, AllTile, AreCoded, DecodingStops, EncodingStops}
 
 module _ {State Symbol : Type 0} (next : State → Symbol → State) where
   pub placed-append : (first : State) (xs ys : List Symbol) → placed next first (xs ++ ys)
@@ -70,17 +66,15 @@ module _ {State Symbol : Type 0} (next : State → Symbol → State) where
             fault = fault;
           }))
 
-    pub decoding-stops : {Coder Fault E : Type 0} (held : Coder → C) (IsRefusal : Fault → Type 0)
-        (Tells : State → Coder → Result Symbol (CoderError Fault E) → Coder → Type 0) (count : ℕ) (error : CoderError Fault E)
-        (xs : List Symbol) (first : State) (old : C) (between : State) (reached : Coder) (last : State) (new : Coder)
-        → AreCoded next Step xs first old between (held reached) → length xs < count
-        → IsNotDecoded IsRefusal (Tells between) error reached new → last ≡ between
-        → DecodingStops next Step held IsRefusal Tells count error first old last new
-    decoding-stops held IsRefusal Tells count error xs first old between reached last new coded fewer why unlearned = record {
+    pub decoding-stops : (Fault : C → C → Type 0) (count : ℕ) (xs : List Symbol) (first : State) (old : C) (between : State) (mid : C)
+        (last : State) (new : C) → AreCoded next Step xs first old between mid → length xs < count → Fault mid new → last ≡ between
+        → DecodingStops next Step Fault count first old last new
+    decoding-stops Fault count xs first old between mid last new coded fewer fault unlearned = record {
       done = xs;
-      reached = reached;
+      reached = mid;
       coded = record { led = coded.led; learned = unlearned ∙ coded.learned };
-      why = inl (fewer, subst (λ (s : State). IsNotDecoded IsRefusal (Tells s) error reached new) (sym unlearned) why);
+      fewer = fewer;
+      fault = fault;
     }
 
   -- what comes back leads to the same state
@@ -135,14 +129,3 @@ module _ {State Symbol : Type 0} (rows : State → List (Row Symbol)) (eq : Symb
     alike = λ s. refl;
     step = subst (λ (r : List (Row Symbol)). Step r symbol old new) is step;
   }
-
--- ---- a decoder of a queue whose data is invalid
-
--- has its point above all parts
-pub above-all : {Symbol Coder S E : Type 0} (held : Coder → Held S) (MayRefuse : Symbol → Type 0) (rows : List (Row Symbol))
-    (gives : S → Result (Option ℕ) E → S → Type 0) (precision : ℕ) (old new : Coder)
-    → IsNotDecoded (λ fault. fault ≡ OutOfMemory)
-    (λ from answer to. DecodesFromQueue MayRefuse rows gives precision (held from) answer (held to)) (Frontend InvalidData) old new
-    → IsAboveAll precision (held old).held
-above-all held MayRefuse rows gives precision old new (inl (fault, is, same, stays)) = cc
-above-all held MayRefuse rows gives precision old new (inr tells) = tells.fault.0

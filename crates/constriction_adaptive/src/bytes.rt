@@ -1,23 +1,19 @@
 //! Bytes by a predictor of their bits, in a range coder.
 
 ghost use Rattle.std.specs.Prelude.{◌≡◌, ◌≢◌, ◌++◌, ◌^◌, ◌<◌, ℕ, Bool, List, None, Err, All, IfOk, OnOk, IfErr, length, fold};
-ghost use Rattle.std.specs.Allocator.{alloc_error};
 ghost use Rattle.std.specs.Bool.{beq};
 ghost use Rattle.constriction_coders.specs.Places.{entry_at, IsMessageFrom};
 ghost use Rattle.constriction_coders.specs.RangeDecoder.{held_by};
 ghost use Rattle.constriction_coders.specs.Spans.{IsNarrowed};
 ghost use Rattle.constriction_adaptive.specs.Bytes.{all_bits, bits_of, AreReadFrom};
-ghost use Rattle.constriction_adaptive.specs.Predicted.{entry_in, AllTile, AreCoded, DecodingStops, EncodingStops, IsEncodingFault, IsReadIn};
+ghost use Rattle.constriction_adaptive.specs.Predicted.{entry_in, AllTile, AreCoded, DecodingStops, EncodingStops, IsEncodingFault, IsReadIn, IsReadingFault};
 
 use crate::bit::Bit;
-use crate::decoding::decode_next;
 use crate::error::EncoderFrontendError;
 use crate::predictor::Predictor;
-use crate::queue::encode_adaptively;
+use crate::queue::{decode_next, encode_adaptively};
 use constriction_backends::{Cursor, ReadWords};
 use constriction_coders::queue::{DecoderFrontendError, RangeDecoder, RangeEncoder};
-use constriction_coders::{Code, Decode};
-use constriction_model::DecoderModel;
 use constriction_words::{CoderError, Queue};
 use std::alloc::{AllocError, Global};
 
@@ -80,7 +76,7 @@ where
 
 /// Decodes the bits of a byte.
 ///
-/// It fails as [`decode_next`](crate::decode_next) does. The bits before the one that was not decoded stay decoded and learned.
+/// It fails as [`decode_next`](crate::queue::decode_next) does. The bits before the one that was not decoded stay decoded and learned.
 pub fn decode_byte<P, Source>(
     predictor: &mut P,
     decoder: &mut RangeDecoder<Source>,
@@ -95,11 +91,8 @@ where
         (P.state predictor.old) (held_by decoder.old) (P.state predictor.new) (held_by decoder.new)) }
     ensures err { IfErr result (λ error. DecodingStops P.next
         (IsReadIn P.rows (λ s t. t ≡ s) beq 16 Source.read_gives)
-        ⟦<RangeDecoder<Source> as Code>⟧.held
-        (⟦<DecoderFrontendError as From<AllocError>>⟧.from_gives alloc_error)
-        (λ state. ⟦<RangeDecoder<Source> as Decode<16>>⟧.decodes Bool ⟦<Bit as DecoderModel<16>>⟧.may_refuse
-        (P.rows state)) 8
-        error (P.state predictor.old) (held_by decoder.old) (P.state predictor.new) decoder.new) }
+        (λ reached new. IsReadingFault Source.read_gives 16 error reached new.source × (new.held ≡ reached.held)) 8
+        (P.state predictor.old) (held_by decoder.old) (P.state predictor.new) (held_by decoder.new)) }
 {
     let mut byte = 0u8;
     for done in 0..8usize {

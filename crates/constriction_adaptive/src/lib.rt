@@ -9,7 +9,6 @@ mod bit;
 pub mod bytes;
 mod categorical;
 mod contexts;
-mod decoding;
 mod error;
 mod hashed;
 mod known_models;
@@ -21,7 +20,6 @@ pub mod stack;
 
 pub use self::bit::Bit;
 pub use self::categorical::AdaptiveCategorical;
-pub use self::decoding::{decode_adaptively, decode_next};
 pub use self::error::EncoderFrontendError;
 pub use self::hashed::HashedContexts;
 pub use self::known_models::KnownModels;

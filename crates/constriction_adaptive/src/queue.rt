@@ -7,5 +7,5 @@ mod runs;
 pub use self::messages::{
     decode_message, encode_message, message_comes_back, one_message_from, symbols_come_back,
 };
-pub use self::next::encode_next;
-pub use self::runs::encode_adaptively;
+pub use self::next::{decode_next, encode_next};
+pub use self::runs::{decode_adaptively, encode_adaptively};

@@ -7,10 +7,9 @@ ghost use Rattle.constriction_coders.specs.Places.{placed, entry_at, IsMessageFr
 ghost use Rattle.constriction_coders.specs.RangeLaws.{MessageOnce, RangeMessageComesBack};
 ghost use Rattle.constriction_adaptive.specs.Predicted.{entry_in, FirstAreLearned, IsReadIn, StopsPredicting};
 
-use crate::decoding::decode_adaptively;
 use crate::error::EncoderFrontendError;
 use crate::predictor::Predictor;
-use crate::queue::runs::encode_adaptively;
+use crate::queue::runs::{decode_adaptively, encode_adaptively};
 use constriction_backends::{Cursor, ReadWords};
 use constriction_coders::laws::MessageError;
 use constriction_coders::queue::{DecoderFrontendError, RangeDecoder, RangeEncoder};

@@ -1,16 +1,18 @@
 //! The next symbol.
 
-ghost use Rattle.std.specs.Prelude.{◌≡◌, OnOk, OnErr, IfErr};
+ghost use Rattle.std.specs.Prelude.{◌≡◌, OnOk, OnErr, IfOk, IfErr};
 ghost use Rattle.constriction_model.specs.Rows.{RowsTile};
 ghost use Rattle.constriction_coders.specs.Places.{entry_at};
+ghost use Rattle.constriction_coders.specs.RangeDecoder.{held_by};
 ghost use Rattle.constriction_coders.specs.Spans.{IsNarrowed};
-ghost use Rattle.constriction_adaptive.specs.Predicted.{entry_in, IsEncodingFault};
+ghost use Rattle.constriction_adaptive.specs.Predicted.{entry_in, IsEncodingFault, IsReadIn, IsReadingFault};
 
 use crate::error::EncoderFrontendError;
 use crate::predictor::Predictor;
-use constriction_coders::Encode;
-use constriction_coders::queue::RangeEncoder;
-use constriction_words::CoderError;
+use constriction_backends::ReadWords;
+use constriction_coders::queue::{DecoderFrontendError, RangeDecoder, RangeEncoder};
+use constriction_coders::{Decode, Encode};
+use constriction_words::{CoderError, Queue};
 use std::alloc::AllocError;
 
 /// Encodes a symbol by the model that the predictor has for it, and learns it.
@@ -45,5 +47,40 @@ where
             Err(CoderError::Frontend(EncoderFrontendError::ImpossibleSymbol))
         }
         Err(CoderError::Backend(error)) => Err(CoderError::Backend(error)),
+    }
+}
+
+/// Decodes a symbol by the model that the predictor has for it, and learns it.
+///
+/// It fails with `InvalidData` only if the point lies above all quantiles, with `OutOfMemory` only if memory is refused, to the symbol or to
+/// learn it, and with the backend's error only if a read answered that. An error leaves what is held and what was learned, and only a read
+/// that failed may change the source.
+pub fn decode_next<P, Source, const PRECISION: usize>(
+    predictor: &mut P,
+    decoder: &mut RangeDecoder<Source>,
+) -> Result<P::Symbol, CoderError<DecoderFrontendError, Source::ReadError>>
+where
+    P: Predictor<PRECISION>,
+    P::Symbol: Drop,
+    Source: ReadWords<u32, Queue>,
+    requires { Source.can_read decoder.old.words }
+    ensures goes_on { Source.can_read decoder.new.words }
+    ensures ok { IfOk result (λ symbol. IsReadIn P.rows P.Model.stands_for P.Model.symbol_eq PRECISION Source.read_gives
+        (P.state predictor.old, symbol) (held_by decoder.old) (held_by decoder.new)) }
+    ensures learned { IfOk result (λ symbol. P.state predictor.new ≡ P.next (P.state predictor.old) symbol) }
+    ensures fault { IfErr result (λ error. IsReadingFault Source.read_gives PRECISION error (held_by decoder.old) decoder.new.words) }
+    ensures same { OnErr result ((held_by decoder.new).held ≡ (held_by decoder.old).held) }
+    ensures unlearned { OnErr result (P.state predictor.new ≡ P.state predictor.old) }
+{
+    match predictor.reserve() {
+        Ok(()) => {}
+        Err(_) => return Err(CoderError::Frontend(DecoderFrontendError::OutOfMemory)),
+    }
+    match decoder.decode_symbol(predictor.model()) {
+        Ok(symbol) => {
+            predictor.learn(&symbol);
+            Ok(symbol)
+        }
+        Err(error) => Err(error),
     }
 }
