@@ -20,7 +20,8 @@ pub struct Bit {
 }
 
 impl Bit {
-    /// The model of a bit that is `false` with this weight out of 65,536. A weight of 0 is taken for 1, so that each bit has an entry.
+    /// The model of a bit that is `false` with this weight out of 65,536. A weight of 0 is taken
+    /// for 1, so that each bit has an entry.
     #[inline]
     pub fn new(weight: u16) -> Self
         ensures { ⟦<Bit as EntropyModel<16>>⟧.rows result ≡ bit_rows (at_least_one weight) }

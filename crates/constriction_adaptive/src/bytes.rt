@@ -46,8 +46,8 @@ where
 
 /// Encodes the bits of a byte, the highest first.
 ///
-/// It fails as [`encode_next`](crate::queue::encode_next) does, but no bit is impossible. The bits before the one that was not encoded stay
-/// encoded and learned.
+/// It fails as [`encode_next`](crate::queue::encode_next) does, but no bit is impossible. The bits
+/// before the one that was not encoded stay encoded and learned.
 #[inline]
 pub fn encode_byte<P>(
     predictor: &mut P,
@@ -56,10 +56,12 @@ pub fn encode_byte<P>(
 ) -> Result<(), CoderError<EncoderFrontendError, AllocError>>
 where
     P: Predictor<16, Symbol = bool, Model = Bit>,
-    ensures ok { OnOk result (AreCoded P.next (λ s. IsNarrowed (entry_at (entry_in P.rows beq) s) 16) (bits_of byte)
+    ensures ok { OnOk result
+        (AreCoded P.next (λ s. IsNarrowed (entry_at (entry_in P.rows beq) s) 16) (bits_of byte)
         (P.state predictor.old) encoder.old (P.state predictor.new) encoder.new) }
     ensures tile { OnOk result (AllTile P.rows P.next 16 (P.state predictor.old) (bits_of byte)) }
-    ensures err { IfErr result (λ error. EncodingStops P.next (λ s. IsNarrowed (entry_at (entry_in P.rows beq) s) 16)
+    ensures err { IfErr result (λ error.
+        EncodingStops P.next (λ s. IsNarrowed (entry_at (entry_in P.rows beq) s) 16)
         (IsEncodingFault (entry_at (entry_in P.rows beq)) 16 error) (bits_of byte)
         (P.state predictor.old) encoder.old (P.state predictor.new) encoder.new) }
     ensures possible { result ≢ Err (CoderError.Frontend EncoderFrontendError.ImpossibleSymbol) }
@@ -76,7 +78,8 @@ where
 
 /// Decodes the bits of a byte.
 ///
-/// It fails as [`decode_next`](crate::queue::decode_next) does. The bits before the one that was not decoded stay decoded and learned.
+/// It fails as [`decode_next`](crate::queue::decode_next) does. The bits before the one that was
+/// not decoded stay decoded and learned.
 pub fn decode_byte<P, Source>(
     predictor: &mut P,
     decoder: &mut RangeDecoder<Source>,
@@ -86,13 +89,15 @@ where
     Source: ReadWords<u32, Queue>,
     requires { Source.can_read decoder.old.words }
     ensures goes_on { Source.can_read decoder.new.words }
-    ensures ok { IfOk result (λ byte. AreCoded P.next
-        (IsReadIn P.rows (λ s t. t ≡ s) beq 16 Source.read_gives) (bits_of byte)
-        (P.state predictor.old) (held_by decoder.old) (P.state predictor.new) (held_by decoder.new)) }
-    ensures err { IfErr result (λ error. DecodingStops P.next
-        (IsReadIn P.rows (λ s t. t ≡ s) beq 16 Source.read_gives)
-        (λ reached new. IsReadingFault Source.read_gives 16 error reached new.source × (new.held ≡ reached.held)) 8
-        (P.state predictor.old) (held_by decoder.old) (P.state predictor.new) (held_by decoder.new)) }
+    ensures ok { IfOk result (λ byte.
+        AreCoded P.next (IsReadIn P.rows (λ s t. t ≡ s) beq 16 Source.read_gives) (bits_of byte)
+        (P.state predictor.old) (held_by decoder.old) (P.state predictor.new)
+        (held_by decoder.new)) }
+    ensures err { IfErr result (λ error.
+        DecodingStops P.next (IsReadIn P.rows (λ s t. t ≡ s) beq 16 Source.read_gives)
+        (λ reached new. IsReadingFault Source.read_gives 16 error reached new.source
+        × (new.held ≡ reached.held)) 8 (P.state predictor.old) (held_by decoder.old)
+        (P.state predictor.new) (held_by decoder.new)) }
 {
     let mut byte = 0u8;
     for done in 0..8usize {
@@ -105,7 +110,8 @@ where
     Ok(byte)
 }
 
-/// The words of these bytes, from the state of the predictor on, and from which they are read again.
+/// The words of these bytes, from the state of the predictor on, and from which they are read
+/// again.
 ///
 /// It fails only if memory is refused.
 pub fn encode_bytes<P>(
@@ -115,10 +121,12 @@ pub fn encode_bytes<P>(
 ) -> Result<Vec<u32>, AllocError>
 where
     P: Predictor<16, Symbol = bool, Model = Bit>,
-    ensures ok { IfOk result (λ words. IsMessageFrom (entry_in P.rows beq) P.next 16 (P.state predictor.old)
-        (all_bits bytes.now) words.items) }
-    ensures read { IfOk result (λ words. AreReadFrom P.rows P.next (P.state predictor.old) bytes.now words.items) }
-    ensures learned { OnOk result (P.state predictor.new ≡ fold P.next (P.state predictor.old) (all_bits bytes.now)) }
+    ensures ok { IfOk result (λ words. IsMessageFrom (entry_in P.rows beq) P.next 16
+        (P.state predictor.old) (all_bits bytes.now) words.items) }
+    ensures read { IfOk result (λ words.
+        AreReadFrom P.rows P.next (P.state predictor.old) bytes.now words.items) }
+    ensures learned { OnOk result
+        (P.state predictor.new ≡ fold P.next (P.state predictor.old) (all_bits bytes.now)) }
 {
     let mut encoder = RangeEncoder::new(alloc);
     for byte in bytes {
@@ -134,8 +142,8 @@ where
 
 /// Decodes `count` bytes from a source, which may have other words after theirs.
 ///
-/// Any words have bytes, except that some are refused as `InvalidData`. Memory is asked for as bytes come, so `count` may come from outside.
-/// If it is refused, the error is `OutOfMemory`.
+/// Any words have bytes, except that some are refused as `InvalidData`. Memory is asked for as
+/// bytes come, so `count` may come from outside. If it is refused, the error is `OutOfMemory`.
 pub fn decode_bytes<P, Source>(
     alloc: Global,
     predictor: &mut P,
@@ -149,10 +157,11 @@ where
     ensures ok { IfOk result (λ bytes. (words : List ℕ) → Source.tells_upcoming source words
         → AreReadFrom P.rows P.next (P.state predictor.old) bytes.items words) }
     ensures count { IfOk result (λ bytes. length bytes.items ≡ count) }
-    ensures learned { IfOk result (λ bytes. P.state predictor.new ≡ fold P.next (P.state predictor.old) (all_bits bytes.items)) }
+    ensures learned { IfOk result (λ bytes.
+        P.state predictor.new ≡ fold P.next (P.state predictor.old) (all_bits bytes.items)) }
     ensures valid { result ≡ Err (CoderError.Frontend DecoderFrontendError.InvalidData)
-        → (bytes words : List ℕ) → length bytes ≡ count → AreReadFrom P.rows P.next (P.state predictor.old) bytes words
-        → ¬ (Source.tells_upcoming source words) }
+        → (bytes words : List ℕ) → length bytes ≡ count → AreReadFrom P.rows P.next
+        (P.state predictor.old) bytes words → ¬ (Source.tells_upcoming source words) }
     ensures failed { (error : _) → result ≡ Err (CoderError.Backend error)
         → (reached left : Source) × Source.read_gives reached (Err error) left }
 {
@@ -178,12 +187,12 @@ where
 pub fn bytes_are_read_once<P>()
 where
     P: Predictor<16, Symbol = bool, Model = Bit>,
-    ensures { (first : P.State) (a b words : List ℕ) → AreReadFrom P.rows P.next first a words → AreReadFrom P.rows P.next first b words
-        → length a ≡ length b → a ≡ b }
+    ensures { (first : P.State) (a b words : List ℕ) → AreReadFrom P.rows P.next first a words
+        → AreReadFrom P.rows P.next first b words → length a ≡ length b → a ≡ b }
 {}
 
-/// Encodes the bytes and decodes as many. If both predictors begin in one state, the bytes come back, whatever is predicted, and both end in
-/// one state.
+/// Encodes the bytes and decodes as many. If both predictors begin in one state, the bytes come
+/// back, whatever is predicted, and both end in one state.
 ///
 /// It fails only if memory is refused.
 pub fn bytes_come_back<P>(
@@ -196,7 +205,8 @@ where
     P: Predictor<16, Symbol = bool, Model = Bit>,
     requires { P.state decoding.old ≡ P.state encoding.old }
     ensures back { IfOk result (λ again. again.items ≡ bytes.now) }
-    ensures learned { OnOk result (P.state encoding.new ≡ fold P.next (P.state encoding.old) (all_bits bytes.now)) }
+    ensures learned { OnOk result
+        (P.state encoding.new ≡ fold P.next (P.state encoding.old) (all_bits bytes.now)) }
     ensures one_state { OnOk result (P.state decoding.new ≡ P.state encoding.new) }
 {
     bytes_are_read_once::<P>();
@@ -210,14 +220,17 @@ where
     }
 }
 
-/// From the words of bytes as many bytes are read as were encoded, and these are the same, whatever words come after them.
+/// From the words of bytes as many bytes are read as were encoded, and these are the same, whatever
+/// words come after them.
 pub fn message_is_read<P>()
 where
     P: Predictor<16, Symbol = bool, Model = Bit>,
     ensures back { (first : P.State) (bytes answers words more : List ℕ) → All (λ b. b < 256) bytes
-        → IsMessageFrom (entry_in P.rows beq) P.next 16 first (all_bits bytes) words → All (λ w. w < 2 ^ 32) more
-        → AreReadFrom P.rows P.next first answers (words ++ more) → length answers ≡ length bytes → answers ≡ bytes }
-    ensures whatever_follows { (first : P.State) (bytes words more : List ℕ) → AreReadFrom P.rows P.next first bytes words
-        → IsMessageFrom (entry_in P.rows beq) P.next 16 first (all_bits bytes) words → All (λ w. w < 2 ^ 32) more
-        → AreReadFrom P.rows P.next first bytes (words ++ more) }
+        → IsMessageFrom (entry_in P.rows beq) P.next 16 first (all_bits bytes) words
+        → All (λ w. w < 2 ^ 32) more → AreReadFrom P.rows P.next first answers (words ++ more)
+        → length answers ≡ length bytes → answers ≡ bytes }
+    ensures whatever_follows { (first : P.State) (bytes words more : List ℕ)
+        → AreReadFrom P.rows P.next first bytes words
+        → IsMessageFrom (entry_in P.rows beq) P.next 16 first (all_bits bytes) words
+        → All (λ w. w < 2 ^ 32) more → AreReadFrom P.rows P.next first bytes (words ++ more) }
 {}

@@ -16,13 +16,15 @@ use constriction_model::{
 use constriction_stored_rows::{CdfProbe, Cumulative, cdf_row_at, contiguous_row_at};
 use std::alloc::{AllocError, Global};
 
-/// Predicts the symbols `0, 1, ..` of an alphabet of any size by a cdf, which moves towards each symbol that came.
+/// Predicts the symbols `0, 1, ..` of an alphabet of any size by a cdf, which moves towards each
+/// symbol that came.
 ///
-/// Each left cumulative moves by a `2^RATE`-th of its way to where it is if the symbol has all quantiles but one for each other symbol. So
-/// each symbol always has a quantile. The greater `RATE` is, the longer the cdf remembers.
+/// Each left cumulative moves by a `2^RATE`-th of its way to where it is if the symbol has all
+/// quantiles but one for each other symbol. So each symbol always has a quantile. The greater
+/// `RATE` is, the longer the cdf remembers.
 ///
-/// The predictor is its own model, in 4 bytes a symbol. The row of a quantile takes a search, and learning one pass over the cdf, without a
-/// division and without memory.
+/// The predictor is its own model, in 4 bytes a symbol. The row of a quantile takes a search, and
+/// learning one pass over the cdf, without a division and without memory.
 #[derive(Drop)]
 pub struct AdaptiveCategorical<const RATE: u32, const PRECISION: usize> {
     cdf: Vec<u32>,
@@ -56,7 +58,8 @@ fn lower<const RATE: u32>(cdf: &mut [u32], end: usize)
     requires rate { RATE < 32 }
     requires within { end ≤ length cdf.old }
     requires least { (k : ℕ) → k < end → k ≤ slice_index cdf.old k }
-    ensures moved { (k : ℕ) → k < end → slice_index cdf.new k ≡ slice_index cdf.old k - (slice_index cdf.old k - k) / 2 ^ RATE }
+    ensures moved { (k : ℕ) → k < end
+        → slice_index cdf.new k ≡ slice_index cdf.old k - (slice_index cdf.old k - k) / 2 ^ RATE }
     ensures same { (k : ℕ) → end ≤ k → slice_index cdf.new k ≡ slice_index cdf.old k }
 {
     for i in 0..end {
@@ -73,8 +76,8 @@ fn raise<const RATE: u32>(cdf: &mut [u32], begin: usize, end: usize, others: u32
     requires within { end ≤ length cdf.old }
     requires words { others + end ≤ 2 ^ 32 }
     requires most { (k : ℕ) → k < end → slice_index cdf.old k ≤ others + k }
-    ensures moved { (k : ℕ) → begin ≤ k → k < end
-        → slice_index cdf.new k ≡ slice_index cdf.old k + (others + k - slice_index cdf.old k) / 2 ^ RATE }
+    ensures moved { (k : ℕ) → begin ≤ k → k < end → slice_index cdf.new k
+        ≡ slice_index cdf.old k + (others + k - slice_index cdf.old k) / 2 ^ RATE }
     ensures before { (k : ℕ) → k < begin → slice_index cdf.new k ≡ slice_index cdf.old k }
     ensures after { (k : ℕ) → end ≤ k → slice_index cdf.new k ≡ slice_index cdf.old k }
 {
@@ -100,13 +103,16 @@ fn move_towards<const RATE: u32, const PRECISION: usize>(cdf: &mut [u32], symbol
 }
 
 impl<const RATE: u32, const PRECISION: usize> AdaptiveCategorical<RATE, PRECISION> {
-    /// Nothing was learned, and all of the symbols `0..symbols` are as likely, but for the last one, which also has what is left over.
+    /// Nothing was learned, and all of the symbols `0..symbols` are as likely, but for the last
+    /// one, which also has what is left over.
     ///
-    /// `InvalidTable` comes if there are no symbols, or more than quantiles, or only one at 32 bits, whose weight is no word.
+    /// `InvalidTable` comes if there are no symbols, or more than quantiles, or only one at 32
+    /// bits, whose weight is no word.
     pub fn new(alloc: Global, symbols: usize) -> Result<Self, ModelError>
         requires rate { RATE < 32 }
         requires precision { IsPrecision 32 PRECISION }
-        ensures ok { IfOk result (λ made. ⟦<AdaptiveCategorical<RATE, PRECISION> as Predictor<PRECISION>>⟧.state made
+        ensures ok { IfOk result (λ made.
+            ⟦<AdaptiveCategorical<RATE, PRECISION> as Predictor<PRECISION>>⟧.state made
             ≡ even_lefts PRECISION symbols) }
         ensures invalid { (result ≡ Err ModelError.InvalidTable)
             ↔ ((symbols ≡ 0) ⊎ ((2 ^ PRECISION < symbols) ⊎ ((PRECISION ≡ 32) × (symbols ≡ 1)))) }

@@ -14,7 +14,8 @@ use std::alloc::{AllocError, Global};
 /// How many slots there are.
 const SLOTS: usize = 4_194_304;
 
-/// An odd number near `2^64` divided by the golden ratio, whose products have all bits of a context in their highest bits.
+/// An odd number near `2^64` divided by the golden ratio, whose products have all bits of a context
+/// in their highest bits.
 const MULTIPLIER: u64 = 11_400_714_819_323_198_485;
 
 /// The slot of a context.
@@ -27,7 +28,8 @@ fn slot_of(history: u64, node: u8) -> usize
     ((history * 256 + node as u64).wrapping_mul(MULTIPLIER) >> 42) as usize
 }
 
-/// Predicts the next bit of bytes by the bits of the byte so far and the last `ORDER` bytes before it, at most 7.
+/// Predicts the next bit of bytes by the bits of the byte so far and the last `ORDER` bytes before
+/// it, at most 7.
 ///
 /// Contexts share 4,194,304 slots, in 8 MiB. Learning takes no memory.
 #[derive(Drop)]
@@ -41,14 +43,16 @@ pub struct HashedContexts<const ORDER: usize> {
     ghost kept: { history < modulus },
     ghost modulus_is: { modulus ≡ 256 ^ ORDER },
     ghost many: { length weights.items ≡ 4194304 },
-    ghost is: { ⟦<Bit as EntropyModel<16>>⟧.rows current ≡ bit_rows (at_least_one (slice_index weights.items (hashed_slot history node))) },
+    ghost is: { ⟦<Bit as EntropyModel<16>>⟧.rows current
+        ≡ bit_rows (at_least_one (slice_index weights.items (hashed_slot history node))) },
 }
 
 impl<const ORDER: usize> HashedContexts<ORDER> {
     /// Nothing was learned, and both bits are as likely.
     pub fn new(alloc: Global) -> Result<Self, AllocError>
         requires { ORDER ≤ 7 }
-        ensures { IfOk result (λ made. ⟦<HashedContexts<ORDER> as Predictor<16>>⟧.state made ≡ untouched 4194304) }
+        ensures { IfOk result (λ made.
+            ⟦<HashedContexts<ORDER> as Predictor<16>>⟧.state made ≡ untouched 4194304) }
     {
         let weights = even(alloc, SLOTS)?;
         let current = Bit::new(weights[slot_of(0, 1)]);

@@ -8,7 +8,8 @@ use crate::predictor::Predictor;
 use constriction_model::{DecoderModel, EncoderModel};
 use std::alloc::AllocError;
 
-/// Predicts each symbol by the model at its place in a list, and those after the list by its last model.
+/// Predicts each symbol by the model at its place in a list, and those after the list by its last
+/// model.
 ///
 /// It learns of a symbol only that it came, and takes no memory.
 #[derive(Drop)]

@@ -1,8 +1,9 @@
 //! Symbols whose models are learned while they are coded.
 //!
-//! A [`Predictor`] has a model of the next symbol, and learns each symbol that was coded. If an encoder and a decoder begin with predictors
-//! in one state, whatever is encoded comes back: as a message of a range coder ([`queue`]), from a stack ([`stack`]), or as bytes whose bits
-//! are predicted ([`bytes`]).
+//! A [`Predictor`] has a model of the next symbol, and learns each symbol that was coded. If an
+//! encoder and a decoder begin with predictors in one state, whatever is encoded comes back: as a
+//! message of a range coder ([`queue`]), from a stack ([`stack`]), or as bytes whose bits are
+//! predicted ([`bytes`]).
 #![tactic(auto)]
 
 mod bit;

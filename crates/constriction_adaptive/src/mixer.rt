@@ -21,10 +21,11 @@ use crate::predictor::Predictor;
 use constriction_model::EntropyModel;
 use std::alloc::{AllocError, Global};
 
-/// Predicts the next bit of bytes by `N` contexts at once, at most 16: each sees the bits of the byte so far, and some bytes before it or the
-/// byte that came last after the same bytes.
+/// Predicts the next bit of bytes by `N` contexts at once, at most 16: each sees the bits of the
+/// byte so far, and some bytes before it or the byte that came last after the same bytes.
 ///
-/// What the contexts say is mixed, and a context that was right counts more from then on. Learning takes no memory.
+/// What the contexts say is mixed, and a context that was right counts more from then on. Learning
+/// takes no memory.
 #[derive(Drop)]
 pub struct Mixer<const N: usize> {
     contexts: [u32; N],
@@ -43,9 +44,12 @@ pub struct Mixer<const N: usize> {
     ghost rows: { length weights.items ≡ 16 },
     ghost seen: { (k : ℕ) → k < N → slice_index contexts k ≤ 8 },
     ghost inside: { (k : ℕ) → k < N → slice_index places k + 16 ≤ 16 * groups },
-    ghost places_are: { places ≡ places_of (state_of contexts groups slots.items weights.items past) },
-    ghost strengths_are: { strengths ≡ strengths_of (state_of contexts groups slots.items weights.items past) },
-    ghost weight_is: { weight ≡ predicted (state_of contexts groups slots.items weights.items past) },
+    ghost places_are: { places
+        ≡ places_of (state_of contexts groups slots.items weights.items past) },
+    ghost strengths_are: { strengths
+        ≡ strengths_of (state_of contexts groups slots.items weights.items past) },
+    ghost weight_is: { weight
+        ≡ predicted (state_of contexts groups slots.items weights.items past) },
     ghost is: { ⟦<Bit as EntropyModel<16>>⟧.rows current ≡ bit_rows (at_least_one weight) },
 }
 
@@ -101,8 +105,10 @@ fn predict<const N: usize>(
     requires few { N ≤ 16 }
     requires rows { length weights.now ≡ 16 }
     requires within { (k : ℕ) → k < N → slice_index places.now k + 16 ≤ length slots.now }
-    ensures strengths { strengths.new ≡ map (λ p. strength (slice_index slots.now (p + past.now.path))) places.now }
-    ensures weight { result ≡ squash (mixed (slice_index_or weights.now past.now.told []) strengths.new) }
+    ensures strengths { strengths.new
+        ≡ map (λ p. strength (slice_index slots.now (p + past.now.path))) places.now }
+    ensures weight { result
+        ≡ squash (mixed (slice_index_or weights.now past.now.told []) strengths.new) }
 {
     ask(tables, slots, places, past.path(), strengths);
     tables.squash(mix(&weights[past.told()], strengths))
@@ -118,7 +124,8 @@ fn adjust_row<const N: usize>(
     bit: bool,
 )
     requires told { told < length weights.old }
-    ensures { weights.new ≡ slice_set weights.old told (weights_after bit (error_of bit weight) strengths.now (slice_index_or weights.old told [])) }
+    ensures { weights.new ≡ slice_set weights.old told (weights_after bit (error_of bit weight)
+        strengths.now (slice_index_or weights.old told [])) }
 {
     adjust(&mut weights[told], strengths, weight, bit);
 }
@@ -134,8 +141,9 @@ fn even_inputs<const N: usize>(alloc: Global) -> Result<Vec<[u32; N]>, AllocErro
 impl<const N: usize> Mixer<N> {
     /// Nothing was learned, and all contexts count as much.
     ///
-    /// Each context sees so many of the last bytes, at most 8, or for 0 the byte that came last after the last `reach` bytes. There are
-    /// `groups` groups of 16 slots of two bytes, which the contexts share, and `followers` bytes for those that came last.
+    /// Each context sees so many of the last bytes, at most 8, or for 0 the byte that came last
+    /// after the last `reach` bytes. There are `groups` groups of 16 slots of two bytes, which the
+    /// contexts share, and `followers` bytes for those that came last.
     pub fn new(
         alloc: Global,
         contexts: [u32; N],
@@ -150,7 +158,8 @@ impl<const N: usize> Mixer<N> {
         requires few { followers < 2 ^ 32 }
         requires near { 0 < reach }
         requires far { reach ≤ 8 }
-        ensures { IfOk result (λ made. ⟦<Mixer<N> as Predictor<16>>⟧.state made ≡ mixer_begun contexts.entry groups followers reach) }
+        ensures { IfOk result (λ made. ⟦<Mixer<N> as Predictor<16>>⟧.state made
+            ≡ mixer_begun contexts.entry groups followers reach) }
     {
         let slots = even(alloc, 16 * groups as usize)?;
         let weights = even_inputs(alloc)?;

@@ -22,7 +22,8 @@ pub struct OrderOne {
     current: Bit,
     ghost many: { length weights.items ≡ 65536 },
     ghost byte: { history < 256 },
-    ghost is: { ⟦<Bit as EntropyModel<16>>⟧.rows current ≡ bit_rows (at_least_one (slice_index weights.items (history * 256 + node))) },
+    ghost is: { ⟦<Bit as EntropyModel<16>>⟧.rows current
+        ≡ bit_rows (at_least_one (slice_index weights.items (history * 256 + node))) },
 }
 
 impl OrderOne {

@@ -9,8 +9,8 @@ use std::alloc::AllocError;
 
 /// Predicts the next symbol by a model, and learns each symbol that came.
 ///
-/// What it predicts depends on its state alone, and the state on the symbols that it learned. So an encoder and a decoder whose predictors
-/// begin in one state stay in one state.
+/// What it predicts depends on its state alone, and the state on the symbols that it learned. So an
+/// encoder and a decoder whose predictors begin in one state stay in one state.
 pub trait Predictor<const PRECISION: usize> {
     /// The type that is coded.
     type Symbol;
@@ -48,6 +48,7 @@ pub trait Predictor<const PRECISION: usize> {
         ensures { state self.new ≡ next (state self.old) symbol.now };
 
     // What comes back for a symbol leads to the same state as the symbol.
-    ghost next_law: { (s : State) (symbol answer : Self.Symbol) → StandsForEqual Self.Model.stands_for Self.Model.symbol_eq symbol answer
+    ghost next_law: { (s : State) (symbol answer : Self.Symbol)
+        → StandsForEqual Self.Model.stands_for Self.Model.symbol_eq symbol answer
         → next s answer ≡ next s symbol };
 }

@@ -1,7 +1,7 @@
 //! Predicted symbols on a stack coder.
 //!
-//! A stack gives back last what was encoded first. So symbols are predicted from the first to the last, and then encoded from the last to the
-//! first: decoding gives and predicts them in order.
+//! A stack gives back last what was encoded first. So symbols are predicted from the first to the
+//! last, and then encoded from the last to the first: decoding gives and predicts them in order.
 
 mod entries;
 mod next;

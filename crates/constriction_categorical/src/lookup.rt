@@ -156,9 +156,9 @@ where
         quantile: Model::Probability,
     ) -> (usize, CdfProbe<'m, Model::Entry, Model::Kind>)
         requires { Model.Probability.whole quantile < 2 ^ PRECISION }
-        ensures { let width = slot_width PRECISION SLOT_BITS in
-            let q = Model.Probability.whole quantile in
-            IsProbeFor ⟦<CdfProbe<'m, Model::Entry, Model::Kind> as Probe>⟧ (lookup_model_rows self.now)
+        ensures { let width = slot_width PRECISION SLOT_BITS
+            in let q = Model.Probability.whole quantile in IsProbeFor
+            ⟦<CdfProbe<'m, Model::Entry, Model::Kind> as Probe>⟧ (lookup_model_rows self.now)
             (λ r. IsTrue (meets_slot width (q / width) r)) q result.0 result.1 }
     {
         slot_probe::<Model::Entry, Model::Kind, PRECISION, SLOT_BITS>(

@@ -8,11 +8,13 @@ use std::alloc::{AllocError, Global};
 pub(crate) enum Call {
     /// `stack-encode P W.. : S..`: the words of the stack coder for these symbols.
     StackEncode,
-    /// `stack-decode P W.. : N : WORD..`: the `N` symbols that the stack coder decodes from these words.
+    /// `stack-decode P W.. : N : WORD..`: the `N` symbols that the stack coder decodes from these
+    /// words.
     StackDecode,
     /// `queue-encode P W.. : S..`: the words of the range encoder for these symbols.
     QueueEncode,
-    /// `queue-decode P W.. : N : WORD..`: the `N` symbols that the range decoder decodes from these words.
+    /// `queue-decode P W.. : N : WORD..`: the `N` symbols that the range decoder decodes from these
+    /// words.
     QueueDecode,
 }
 
@@ -44,8 +46,8 @@ const SPACE: u8 = b' ';
 /// The most symbols that a line may ask for.
 const MOST_SYMBOLS: u64 = 1_048_576;
 
-/// Adds the numbers up to a colon, or up to the end if `to_colon` is false. Answers whether the words are spelled so, and what follows the
-/// colon.
+/// Adds the numbers up to a colon, or up to the end if `to_colon` is false. Answers whether the
+/// words are spelled so, and what follows the colon.
 fn push_numbers<'a>(
     text: Option<&'a [u8]>,
     to_colon: bool,

@@ -1,5 +1,5 @@
-//! Answers lines of standard input on standard output: the words of a coder, or the symbols of such words. Or packs, unpacks or tests a
-//! file.
+//! Answers lines of standard input on standard output: the words of a coder, or the symbols of such
+//! words. Or packs, unpacks or tests a file.
 #![tactic(auto)]
 
 mod answers;

@@ -7,7 +7,8 @@ use std::fs::{self, File};
 use std::io::ErrorKind;
 use std::process;
 
-/// Refuses an output that may not be written: one that exists, unless it is a regular file and `force` holds.
+/// Refuses an output that may not be written: one that exists, unless it is a regular file and
+/// `force` holds.
 fn check_output(rt: &HostRuntime, output: &str, force: bool) -> Result<(), Fault> {
     match fs::symlink_metadata(rt, output) {
         Ok(_) if !force => Err(Fault::Exists),
@@ -18,8 +19,8 @@ fn check_output(rt: &HostRuntime, output: &str, force: bool) -> Result<(), Fault
     }
 }
 
-/// Gives a part its name. If `force` does not hold, the name is taken in one step, so that no file of another program is lost; only a
-/// file system without links takes two.
+/// Gives a part its name. If `force` does not hold, the name is taken in one step, so that no file
+/// of another program is lost; only a file system without links takes two.
 pub(crate) fn publish(
     rt: &HostRuntime,
     part: &str,

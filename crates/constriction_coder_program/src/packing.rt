@@ -9,7 +9,8 @@ use std::fs;
 use std::io::IsTerminal;
 use std::process::ExitCode;
 
-/// The fault, with what the system said of a read or write that failed, and the name of the file that it is about.
+/// The fault, with what the system said of a read or write that failed, and the name of the file
+/// that it is about.
 fn failure_of<'a>(
     arguments: &Arguments<'a>,
     source: &Source,
@@ -67,7 +68,8 @@ fn convert_part<'a>(
     })
 }
 
-/// Packs or unpacks into a file, which gets its name once it is whole. After a failure nothing of it is left.
+/// Packs or unpacks into a file, which gets its name once it is whole. After a failure nothing of
+/// it is left.
 fn convert_to_file<'a>(
     rt: &HostRuntime,
     arguments: &Arguments<'a>,

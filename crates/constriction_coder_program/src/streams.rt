@@ -1,4 +1,5 @@
-//! What is read and written: standard input and output, and files. Each keeps the last error of the system.
+//! What is read and written: standard input and output, and files. Each keeps the last error of the
+//! system.
 
 use std::fs::File;
 use std::io::{self, IsTerminal, Printer, Read, StdinLock, Write};
@@ -11,7 +12,8 @@ enum Origin {
     File(File),
 }
 
-/// A reader that says once a second on standard error how much it has read, if that is a terminal and the input is large.
+/// A reader that says once a second on standard error how much it has read, if that is a terminal
+/// and the input is large.
 #[derive(Drop)]
 pub(crate) struct Source<'a> {
     origin: Origin,
@@ -46,7 +48,8 @@ impl<'a> Source<'a> {
         self.error
     }
 
-    /// Says how much was read, if a second went by. It ignores errors of the clock and of standard error.
+    /// Says how much was read, if a second went by. It ignores errors of the clock and of standard
+    /// error.
     fn say(&mut self) {
         let Ok(now) = Instant::now(self.rt) else {
             return;

@@ -51,7 +51,8 @@ fn weight_of(count: u64, shared: u64, carried: u128, total: u128) -> (u32, u128)
     ensures some { 0 < count → 0 < result.0 }
     ensures none { count ≡ 0 → result.0 ≡ 0 }
     ensures less { result.1 < total }
-    ensures given { result.0 * total + result.1 ≡ (if nat_lt 0 count then 1 else 0) * total + count * shared + carried }
+    ensures given { result.0 * total + result.1
+        ≡ (if nat_lt 0 count then 1 else 0) * total + count * shared + carried }
 {
     if count == 0 {
         return (0, carried);
@@ -65,8 +66,8 @@ fn weight_of(count: u64, shared: u64, carried: u128, total: u128) -> (u32, u128)
     ((1 + share / total) as u32, share % total)
 }
 
-/// Gives each symbol that occurs one quantile and its share of the others, in a list with room for them. The remainder of a share is
-/// carried to the next symbol.
+/// Gives each symbol that occurs one quantile and its share of the others, in a list with room for
+/// them. The remainder of a share is carried to the next symbol.
 fn share_out(weights: &mut Vec<u32>, counts: &[u64], shared: u64, total: u128)
     requires places { length counts.now ≤ vec_capacity weights.old }
     requires total { total ≡ sum counts.now }
@@ -75,10 +76,12 @@ fn share_out(weights: &mut Vec<u32>, counts: &[u64], shared: u64, total: u128)
     requires room { shared + 1 < 2 ^ 32 }
     ensures as_many { length weights.new.items ≡ length counts.now }
     ensures fit { All (λ w. w < 2 ^ 32) weights.new.items }
-    ensures before { (place : ℕ) → sum (take place weights.new.items)
-        ≡ occurring (take place counts.now) + sum (take place counts.now) * shared / sum counts.now }
-    ensures some { (place : ℕ) → 0 < slice_index counts.now place → 0 < slice_index weights.new.items place }
-    ensures none { (place : ℕ) → slice_index counts.now place ≡ 0 → slice_index weights.new.items place ≡ 0 }
+    ensures before { (place : ℕ) → sum (take place weights.new.items) ≡ occurring
+        (take place counts.now) + sum (take place counts.now) * shared / sum counts.now }
+    ensures some { (place : ℕ) → 0 < slice_index counts.now place
+        → 0 < slice_index weights.new.items place }
+    ensures none { (place : ℕ) → slice_index counts.now place ≡ 0
+        → slice_index weights.new.items place ≡ 0 }
 {
     weights.clear();
     let mut carried = 0u128;
@@ -89,11 +92,13 @@ fn share_out(weights: &mut Vec<u32>, counts: &[u64], shared: u64, total: u128)
     }
 }
 
-/// Weights over `2^PRECISION` in proportion to counts, one for each count, in place of what a list has.
+/// Weights over `2^PRECISION` in proportion to counts, one for each count, in place of what a list
+/// has.
 ///
-/// The weight of a symbol that occurs differs by less than 1 from 1 plus its share of the quantiles that are left when each symbol that
-/// occurs has one. The counts may have any sum. There are two passes over the counts, with a division for each count. Memory is asked for
-/// only if the list has no room for as many weights as counts. If it fails, the list keeps what it has.
+/// The weight of a symbol that occurs differs by less than 1 from 1 plus its share of the quantiles
+/// that are left when each symbol that occurs has one. The counts may have any sum. There are two
+/// passes over the counts, with a division for each count. Memory is asked for only if the list has
+/// no room for as many weights as counts. If it fails, the list keeps what it has.
 pub fn weigh<const PRECISION: usize>(
     counts: &[u64],
     weights: &mut Vec<u32>,
@@ -101,12 +106,17 @@ pub fn weigh<const PRECISION: usize>(
     requires { PRECISION ≤ 32 }
     ensures ok { OnOk result (AreWeightsOf PRECISION counts.now weights.new.items) }
     ensures total { OnOk result (sum weights.new.items ≡ 2 ^ PRECISION) }
-    ensures occur { OnOk result ((place : ℕ) → (0 < slice_index weights.new.items place) ↔ (0 < slice_index counts.now place)) }
-    ensures accepted { OnOk result (IsAccepted 32 PRECISION (filter (λ w. nat_lt 0 w) weights.new.items)) }
+    ensures occur { OnOk result ((place : ℕ)
+        → (0 < slice_index weights.new.items place) ↔ (0 < slice_index counts.now place)) }
+    ensures accepted { OnOk result
+        (IsAccepted 32 PRECISION (filter (λ w. nat_lt 0 w) weights.new.items)) }
     ensures nothing { (result ≡ Err CountsError.NothingOccurs) ↔ (occurring counts.now ≡ 0) }
-    ensures too_many { (result ≡ Err CountsError.TooManySymbols) ↔ (2 ^ PRECISION < occurring counts.now) }
-    ensures no_word { (result ≡ Err CountsError.WeightIsNoWord) ↔ ((PRECISION ≡ 32) × (occurring counts.now ≡ 1)) }
-    ensures memory { result ≡ Err CountsError.OutOfMemory → vec_capacity weights.old < length counts.now }
+    ensures too_many { (result ≡ Err CountsError.TooManySymbols)
+        ↔ (2 ^ PRECISION < occurring counts.now) }
+    ensures no_word { (result ≡ Err CountsError.WeightIsNoWord)
+        ↔ ((PRECISION ≡ 32) × (occurring counts.now ≡ 1)) }
+    ensures memory { result ≡ Err CountsError.OutOfMemory
+        → vec_capacity weights.old < length counts.now }
     ensures err { OnErr result (weights.new.items ≡ weights.old.items) }
 {
     let size = 1u64 << PRECISION;
@@ -139,11 +149,15 @@ pub fn weights_of<const PRECISION: usize>(
     requires { PRECISION ≤ 32 }
     ensures ok { IfOk result (λ weights. AreWeightsOf PRECISION counts.now weights.items) }
     ensures total { IfOk result (λ weights. sum weights.items ≡ 2 ^ PRECISION) }
-    ensures occur { IfOk result (λ weights. (place : ℕ) → (0 < slice_index weights.items place) ↔ (0 < slice_index counts.now place)) }
-    ensures accepted { IfOk result (λ weights. IsAccepted 32 PRECISION (filter (λ w. nat_lt 0 w) weights.items)) }
+    ensures occur { IfOk result (λ weights. (place : ℕ)
+        → (0 < slice_index weights.items place) ↔ (0 < slice_index counts.now place)) }
+    ensures accepted { IfOk result (λ weights.
+        IsAccepted 32 PRECISION (filter (λ w. nat_lt 0 w) weights.items)) }
     ensures nothing { (result ≡ Err CountsError.NothingOccurs) ↔ (occurring counts.now ≡ 0) }
-    ensures too_many { (result ≡ Err CountsError.TooManySymbols) ↔ (2 ^ PRECISION < occurring counts.now) }
-    ensures no_word { (result ≡ Err CountsError.WeightIsNoWord) ↔ ((PRECISION ≡ 32) × (occurring counts.now ≡ 1)) }
+    ensures too_many { (result ≡ Err CountsError.TooManySymbols)
+        ↔ (2 ^ PRECISION < occurring counts.now) }
+    ensures no_word { (result ≡ Err CountsError.WeightIsNoWord)
+        ↔ ((PRECISION ≡ 32) × (occurring counts.now ≡ 1)) }
 {
     let mut weights = Vec::new(alloc);
     match weigh::<PRECISION>(counts, &mut weights) {
@@ -154,6 +168,6 @@ pub fn weights_of<const PRECISION: usize>(
 
 /// Counts have one list of weights.
 pub fn counts_have_one_list<const PRECISION: usize>()
-    ensures { (counts weights others : List ℕ) → AreWeightsOf PRECISION counts weights → AreWeightsOf PRECISION counts others
-        → weights ≡ others }
+    ensures { (counts weights others : List ℕ) → AreWeightsOf PRECISION counts weights
+        → AreWeightsOf PRECISION counts others → weights ≡ others }
 {}

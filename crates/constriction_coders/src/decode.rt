@@ -29,7 +29,8 @@ pub trait Decode<const PRECISION: usize>: Code {
     // Whether a symbol may be asked for. By default it may.
     ghost can_decode: { Self → Type 0 } = { λ _. ⊤ };
 
-    // The symbol stands for that of one of the rows, which leads from the first content to the second.
+    // The symbol stands for that of one of the rows, which leads from the first content to the
+    // second.
     ghost is_decoded: { (Symbol : Type 0) → (Symbol → Symbol → Type 0) → List (Row Symbol) → Symbol
         → Self.Content → Self.Content → Type 0 };
 
@@ -47,8 +48,8 @@ pub trait Decode<const PRECISION: usize>: Code {
         D::Symbol: Drop,
         requires { can_decode self.old }
         ensures goes_on { can_decode self.new }
-        ensures ok { IfOk result (λ symbol. is_decoded D.Symbol D.stands_for (D.rows model.now) symbol
-            (Self.held self.old) (Self.held self.new)) }
+        ensures ok { IfOk result (λ symbol. is_decoded D.Symbol D.stands_for (D.rows model.now)
+            symbol (Self.held self.old) (Self.held self.new)) }
         ensures step { decodes D.Symbol D.may_refuse (D.rows model.now) self.old result self.new }
         ensures same { (fault : _) → result ≡ Err (CoderError.Frontend fault)
             → Self.held self.new ≡ Self.held self.old };
@@ -69,13 +70,14 @@ pub trait Decode<const PRECISION: usize>: Code {
         D::Symbol: Drop,
         requires { can_decode self.old }
         ensures goes_on { can_decode self.new }
-        ensures ok { IfOk result (λ symbols. InTurn (is_decoded D.Symbol D.stands_for (D.rows model.now))
-            symbols.items (Self.held self.old) (Self.held self.new)) }
+        ensures ok { IfOk result (λ symbols.
+            InTurn (is_decoded D.Symbol D.stands_for (D.rows model.now)) symbols.items
+            (Self.held self.old) (Self.held self.new)) }
         ensures count { IfOk result (λ symbols. length symbols.items ≡ count) }
-        ensures err { IfErr result (λ error. DecodingStops Self.held
-            (is_decoded D.Symbol D.stands_for (D.rows model.now))
-            (decodes D.Symbol D.may_refuse (D.rows model.now)) (Self.FrontendError.from_gives alloc_error)
-            count error (Self.held self.old) self.new) }
+        ensures err { IfErr result (λ error.
+            DecodingStops Self.held (is_decoded D.Symbol D.stands_for (D.rows model.now))
+            (decodes D.Symbol D.may_refuse (D.rows model.now))
+            (Self.FrontendError.from_gives alloc_error) count error (Self.held self.old) self.new) }
     {
         let mut symbols = match Vec::with_capacity(alloc, count) {
             Ok(symbols) => symbols,
@@ -91,7 +93,8 @@ pub trait Decode<const PRECISION: usize>: Code {
     }
 }
 
-/// A walk through the next symbols, each by a model of its own. It decodes nothing before it is asked.
+/// A walk through the next symbols, each by a model of its own. It decodes nothing before it is
+/// asked.
 pub fn decode_symbols<'c, C, D, I, const PRECISION: usize>(
     coder: &'c mut C,
     models: I,
@@ -112,10 +115,11 @@ where
     }
 }
 
-/// Symbols of a coder, each of which is decoded when it is asked for, by the next model of an iterator.
+/// Symbols of a coder, each of which is decoded when it is asked for, by the next model of an
+/// iterator.
 ///
-/// It ends when the models do, and asks for none after that. An error stands in the place of a symbol,
-/// and the next answer is by the next model. What was not asked for stays in the coder.
+/// It ends when the models do, and asks for none after that. An error stands in the place of a
+/// symbol, and the next answer is by the next model. What was not asked for stays in the coder.
 #[derive(Drop)]
 pub struct DecodeSymbols<'c, C, Models, const PRECISION: usize> {
     pub(crate) coder: &'c mut C,
@@ -137,7 +141,8 @@ where
     ghost next_gives = { λ s r t. (t.coder.ghost_name ≡ s.coder.ghost_name)
         × StepsByModel (fuse_steps Models.next_gives)
         (λ model. Decodes C.held (C.is_decoded D.Symbol D.stands_for (D.rows model))
-        (C.decodes D.Symbol D.may_refuse (D.rows model))) s.models s.coder.now r t.models t.coder.now };
+        (C.decodes D.Symbol D.may_refuse (D.rows model))) s.models s.coder.now r t.models
+        t.coder.now };
 
     ghost remaining = { λ s.
         count_unless (fuse_done s.models) (Models.remaining (fuse_source s.models)) };
@@ -186,8 +191,8 @@ where
 
 /// Symbols of a coder, each of which is decoded when it is asked for.
 ///
-/// An error stands in the place of a symbol, and the next answer tries again. What was not asked for
-/// stays in the coder.
+/// An error stands in the place of a symbol, and the next answer tries again. What was not asked
+/// for stays in the coder.
 #[derive(Drop)]
 pub struct DecodeIidSymbols<
     'c,
@@ -215,10 +220,10 @@ where
 
     ghost can_next = { λ s. C.can_decode s.coder.now };
 
-    ghost next_gives = { λ s r t.
-        (t.coder.ghost_name ≡ s.coder.ghost_name) × (t.model ≡ s.model)
+    ghost next_gives = { λ s r t. (t.coder.ghost_name ≡ s.coder.ghost_name) × (t.model ≡ s.model)
         × StepsOn (Decodes C.held (C.is_decoded D.Symbol D.stands_for (D.rows s.model.now))
-        (C.decodes D.Symbol D.may_refuse (D.rows s.model.now))) s.left s.coder.now r t.left t.coder.now };
+        (C.decodes D.Symbol D.may_refuse (D.rows s.model.now))) s.left s.coder.now r t.left
+        t.coder.now };
 
     ghost remaining = { λ s. at_most s.left };
 

@@ -46,8 +46,8 @@ pub trait Encode<const PRECISION: usize>: Code {
             self.new }
         ensures same { OnErr result (Self.held self.new ≡ Self.held self.old) };
 
-    /// Encodes symbols, each by a model of its own, from the front of an iterator on, until it ends or
-    /// a symbol is not encoded.
+    /// Encodes symbols, each by a model of its own, from the front of an iterator on, until it ends
+    /// or a symbol is not encoded.
     fn encode_symbols<E, I>(
         &mut self,
         symbols_and_models: I,
@@ -62,9 +62,9 @@ pub trait Encode<const PRECISION: usize>: Code {
         ensures { (given : I.IntoIter) × I.into_iter_gives symbols_and_models given
             × TakesItems I.IntoIter.next_gives given result
             (λ done. InTurn (λ pair. is_encoded (entry_by E.symbol_eq E.rows pair)) done
-            (Self.held self.old) (Self.held self.new))
-            (λ done pair error. StopsAt Self.held is_encoded encodes (entry_by E.symbol_eq E.rows) done
-            pair error (Self.held self.old) self.new) }
+            (Self.held self.old) (Self.held self.new)) (λ done pair error.
+            StopsAt Self.held is_encoded encodes (entry_by E.symbol_eq E.rows) done pair error
+            (Self.held self.old) self.new) }
     {
         let mut given = symbols_and_models.into_iter();
         'turns: while let Some(pair) = given.next() {
@@ -88,20 +88,21 @@ pub trait Encode<const PRECISION: usize>: Code {
         E: EncoderModel<PRECISION, Probability = u32>,
         E::Symbol: Drop,
         I: IntoIterator<Item = E::Symbol>,
-        requires { IsFiniteIterable I.into_iter_gives I.IntoIter.can_next I.IntoIter.remaining symbols }
+        requires { IsFiniteIterable I.into_iter_gives I.IntoIter.can_next I.IntoIter.remaining
+            symbols }
         ensures { (given : I.IntoIter) × I.into_iter_gives symbols given
             × TakesItems I.IntoIter.next_gives given result
-            (λ done. InTurn (λ symbol. is_encoded (entry_of E.symbol_eq (E.rows model.now) symbol)) done
-            (Self.held self.old) (Self.held self.new))
-            (λ done symbol error. StopsAt Self.held is_encoded encodes
-            (entry_of E.symbol_eq (E.rows model.now)) done symbol error (Self.held self.old) self.new) }
+            (λ done. InTurn (λ symbol. is_encoded (entry_of E.symbol_eq (E.rows model.now) symbol))
+            done (Self.held self.old) (Self.held self.new)) (λ done symbol error.
+            StopsAt Self.held is_encoded encodes (entry_of E.symbol_eq (E.rows model.now)) done
+            symbol error (Self.held self.old) self.new) }
     {
         let symbols = symbols.into_iter();
         self.encode_symbols::<&E, _>(WithModel { symbols, model })
     }
 
-    /// Encodes the symbols, the first one first. An error leaves those before the symbol that was not
-    /// encoded.
+    /// Encodes the symbols, the first one first. An error leaves those before the symbol that was
+    /// not encoded.
     fn encode_iid_slice<E>(
         &mut self,
         symbols: &[E::Symbol],
@@ -110,10 +111,12 @@ pub trait Encode<const PRECISION: usize>: Code {
     where
         Self: Sized,
         E: EncoderModel<PRECISION, Probability = u32>,
-        ensures ok { OnOk result (InTurn (λ symbol. is_encoded (entry_of E.symbol_eq (E.rows model.now)
-            symbol)) symbols.now (Self.held self.old) (Self.held self.new)) }
-        ensures err { IfErr result (λ error. EncodingStops Self.held is_encoded encodes
-            (entry_of E.symbol_eq (E.rows model.now)) symbols.now error (Self.held self.old) self.new) }
+        ensures ok { OnOk result
+            (InTurn (λ symbol. is_encoded (entry_of E.symbol_eq (E.rows model.now) symbol))
+            symbols.now (Self.held self.old) (Self.held self.new)) }
+        ensures err { IfErr result (λ error.
+            EncodingStops Self.held is_encoded encodes (entry_of E.symbol_eq (E.rows model.now))
+            symbols.now error (Self.held self.old) self.new) }
     {
         for symbol in symbols {
             match self.encode_symbol(symbol, model) {

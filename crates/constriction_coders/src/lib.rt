@@ -1,8 +1,10 @@
-//! Coders over any model, in the formats of the Rust crate's `DefaultAnsCoder`, `DefaultRangeEncoder` and `DefaultRangeDecoder`.
+//! Coders over any model, in the formats of the Rust crate's `DefaultAnsCoder`,
+//! `DefaultRangeEncoder` and `DefaultRangeDecoder`.
 //!
-//! [`stack::AnsCoder`] encodes and decodes over any stack of words. [`queue::RangeEncoder`] encodes into words in memory, and
-//! [`queue::RangeDecoder`] decodes over any source that is read from its beginning on. [`counts`] makes weights of counts, [`bytes`] turns
-//! words into bytes and back, and [`laws`] says what comes back. Functions over any coder ask for [`Encode`] or [`Decode`].
+//! [`stack::AnsCoder`] encodes and decodes over any stack of words. [`queue::RangeEncoder`] encodes
+//! into words in memory, and [`queue::RangeDecoder`] decodes over any source that is read from its
+//! beginning on. [`counts`] makes weights of counts, [`bytes`] turns words into bytes and back, and
+//! [`laws`] says what comes back. Functions over any coder ask for [`Encode`] or [`Decode`].
 #![tactic(auto)]
 
 pub mod bytes;

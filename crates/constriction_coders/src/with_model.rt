@@ -14,8 +14,9 @@ impl<'m, I: Iterator, E> Iterator for WithModel<'m, I, E> {
 
     ghost can_next = { λ s. I.can_next s.symbols };
 
-    ghost next_gives = { λ s r t. (t.model ≡ s.model) × MatchOption r (I.next_gives s.symbols None t.symbols)
-        (λ pair. I.next_gives s.symbols (Some pair.0) t.symbols × (pair.1 ≡ s.model)) };
+    ghost next_gives = { λ s r t. (t.model ≡ s.model)
+        × MatchOption r (I.next_gives s.symbols None t.symbols) (λ pair.
+        I.next_gives s.symbols (Some pair.0) t.symbols × (pair.1 ≡ s.model)) };
 
     ghost remaining = { λ s. I.remaining s.symbols };
 

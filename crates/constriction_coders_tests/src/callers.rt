@@ -40,7 +40,8 @@ pub fn over_a_vec<M, const PRECISION: usize>(
 where
     M: EncoderModel<PRECISION, Probability = u32> + DecoderModel<PRECISION, Probability = u32>,
     M::Symbol: Drop,
-    ensures { IfSome result (λ answers. AllZip (StandsForEqual M.stands_for M.symbol_eq) (reverse symbols.now) answers.items) }
+    ensures { IfSome result (λ answers.
+        AllZip (StandsForEqual M.stands_for M.symbol_eq) (reverse symbols.now) answers.items) }
 {
     there_and_back::<Vec<u32>, M, M, PRECISION>(alloc, coder, model, model, symbols).ok()
 }
@@ -55,7 +56,8 @@ pub fn in_order<M, const PRECISION: usize>(
 where
     M: EncoderModel<PRECISION, Probability = u32> + DecoderModel<PRECISION, Probability = u32>,
     M::Symbol: Drop,
-    ensures { IfSome result (λ answers. AllZip (StandsForEqual M.stands_for M.symbol_eq) symbols.now answers.items) }
+    ensures { IfSome result (λ answers.
+        AllZip (StandsForEqual M.stands_for M.symbol_eq) symbols.now answers.items) }
 {
     symbols_come_back::<M, M, PRECISION>(model, model);
     match coder.encode_iid_slice_reverse::<M, PRECISION>(symbols, model) {
@@ -75,7 +77,8 @@ pub fn over_a_cursor(
     model: &UniformModel<u32, 24>,
     symbols: &[usize],
 ) -> Option<Vec<usize>>
-    ensures { IfSome result (λ answers. AllZip (λ symbol answer. IsTrue (nat_eq answer symbol)) (reverse symbols.now) answers.items) }
+    ensures { IfSome result (λ answers. AllZip (λ symbol answer. IsTrue (nat_eq answer symbol))
+        (reverse symbols.now) answers.items) }
 {
     there_and_back(alloc, coder, model, model, symbols).ok()
 }
@@ -88,7 +91,8 @@ pub fn of_texts(
     encoder: &TextEncoder,
     symbols: &[String],
 ) -> Option<Vec<String>>
-    requires { SameEntries string_eq (⟦<TextEncoder as EntropyModel<24>>⟧.rows encoder.now) (⟦<Texts as EntropyModel<24>>⟧.rows texts.now) }
+    requires { SameEntries string_eq (⟦<TextEncoder as EntropyModel<24>>⟧.rows encoder.now)
+        (⟦<Texts as EntropyModel<24>>⟧.rows texts.now) }
     ensures { IfSome result (λ answers. AllZip (λ symbol answer. IsTrue (string_eq answer symbol))
         (reverse symbols.now) answers.items) }
 {
@@ -113,8 +117,8 @@ where
     Backend: StackSource<u32>,
     D: DecoderModel<PRECISION, Probability = u32>,
     D::Symbol: Drop,
-    ensures { IfOk result (λ symbols. InTurn (IsDecoded D.stands_for (D.rows model.now) PRECISION) symbols.items
-        (held_by coder.old) (held_by coder.new)) }
+    ensures { IfOk result (λ symbols. InTurn (IsDecoded D.stands_for (D.rows model.now) PRECISION)
+        symbols.items (held_by coder.old) (held_by coder.new)) }
 {
     let mut symbols = Vec::new(alloc);
     for answer in decode_iid_symbols::<_, D, PRECISION>(coder, count, model) {
@@ -140,9 +144,10 @@ where
     I: DoubleEndedIterator<Item = E::Symbol>,
     requires can_next_back { I.can_next_back symbols }
     requires ends { IsFinite (I.remaining symbols) }
-    ensures { OnOk result ((rest : I → List E.Symbol) → ((s : I) (answer : Option E.Symbol) (t : I) → I.next_back_gives s answer t
-        → YieldsLast rest s answer t) → InTurn (λ s. IsEncoded (entry_of E.symbol_eq (E.rows model.now) s) PRECISION) (rest symbols)
-        (held_by coder.new) (held_by coder.old)) }
+    ensures { OnOk result ((rest : I → List E.Symbol) → ((s : I) (answer : Option E.Symbol) (t : I)
+        → I.next_back_gives s answer t → YieldsLast rest s answer t)
+        → InTurn (λ s. IsEncoded (entry_of E.symbol_eq (E.rows model.now) s) PRECISION)
+        (rest symbols) (held_by coder.new) (held_by coder.old)) }
 {
     coder.encode_iid_symbols_reverse::<E, I, PRECISION>(symbols, model)
 }

@@ -42,7 +42,8 @@ fn are_refused<const PRECISION: usize>(
     );
 }
 
-/// The sum of the weights up to a symbol is 1 for each symbol that occurs, and a share of the rest, rounded down.
+/// The sum of the weights up to a symbol is 1 for each symbol that occurs, and a share of the rest,
+/// rounded down.
 #[test]
 fn counts_have_weights(rt: HostRuntime) {
     let alloc = rt.alloc();

@@ -1,5 +1,5 @@
-//! What contracts tell callers that make models of plain lists, and callers that encode numbers below `support_size`. No caller here has a
-//! written answer.
+//! What contracts tell callers that make models of plain lists, and callers that encode numbers
+//! below `support_size`. No caller here has a written answer.
 
 ghost use Rattle.std.specs.Prelude.{◌≡◌, ◌<◌, [], ◌∷◌, Err, IfOk, IfSome, length, nat_eq};
 ghost use Rattle.constriction.specs.Acceptance.{AreAccepted, IsAccepted};
@@ -33,8 +33,10 @@ fn of_a_vec<const PRECISION: usize>(
 ) -> Result<Model<PRECISION>, ModelError>
     requires { IsPrecision 32 PRECISION }
     ensures accepted { IfOk result (λ _. IsAccepted 32 PRECISION weights.items) }
-    ensures rows { IfOk result (λ model. contiguous_model_rows model ≡ contiguous_rows weights.items) }
-    ensures invalid { result ≡ Err ModelError.InvalidTable → ¬ (IsAccepted 32 PRECISION weights.items) }
+    ensures rows { IfOk result (λ model.
+        contiguous_model_rows model ≡ contiguous_rows weights.items) }
+    ensures invalid { result ≡ Err ModelError.InvalidTable
+        → ¬ (IsAccepted 32 PRECISION weights.items) }
 {
     Model::<PRECISION>::from_nonzero_fixed_point_probabilities(alloc, weights, false)
 }
@@ -46,8 +48,10 @@ fn of_a_slice<const PRECISION: usize>(
 ) -> Result<Model<PRECISION>, ModelError>
     requires { IsPrecision 32 PRECISION }
     ensures accepted { IfOk result (λ _. IsAccepted 32 PRECISION weights.now) }
-    ensures rows { IfOk result (λ model. contiguous_model_rows model ≡ contiguous_rows weights.now) }
-    ensures invalid { result ≡ Err ModelError.InvalidTable → ¬ (IsAccepted 32 PRECISION weights.now) }
+    ensures rows { IfOk result (λ model.
+        contiguous_model_rows model ≡ contiguous_rows weights.now) }
+    ensures invalid { result ≡ Err ModelError.InvalidTable
+        → ¬ (IsAccepted 32 PRECISION weights.now) }
 {
     Model::<PRECISION>::from_nonzero_fixed_point_probabilities(
         alloc,
@@ -59,7 +63,8 @@ fn of_a_slice<const PRECISION: usize>(
 /// The model of letters and weights.
 fn of_letters(alloc: Global, letters: Vec<char>, weights: Vec<u32>) -> Result<Letters, ModelError>
     ensures accepted { IfOk result (λ _. AreAccepted nat_eq 32 24 letters.items weights.items) }
-    ensures rows { IfOk result (λ model. decoder_model_rows model ≡ rows_of letters.items weights.items) }
+    ensures rows { IfOk result (λ model.
+        decoder_model_rows model ≡ rows_of letters.items weights.items) }
 {
     Letters::from_symbols_and_nonzero_fixed_point_probabilities(alloc, letters, weights, false)
 }
@@ -69,7 +74,8 @@ const LETTERS: [char; 2] = ['a', 'b'];
 
 /// The model of these letters that comes back from stored weights.
 fn from_stored_weights(alloc: Global) -> Option<Letters>
-    ensures { IfSome result (λ model. decoder_model_rows model ≡ rows_of (97 ∷ 98 ∷ []) (16777215 ∷ 1 ∷ [])) }
+    ensures { IfSome result (λ model.
+        decoder_model_rows model ≡ rows_of (97 ∷ 98 ∷ []) (16777215 ∷ 1 ∷ [])) }
 {
     let letters = Vec::from_array(alloc, LETTERS).ok()?;
     let weights = Vec::from_array(alloc, [16_777_215, 1]).ok()?;
@@ -108,7 +114,8 @@ fn encode_below<const PRECISION: usize>(
     }
 }
 
-/// Encodes a number if it is below the range of a uniform model. This fails only if memory is refused.
+/// Encodes a number if it is below the range of a uniform model. This fails only if memory is
+/// refused.
 fn encode_in_range(
     coder: &mut AnsCoder<Vec<u32>>,
     model: &UniformModel<u32, 24>,
@@ -141,7 +148,8 @@ fn decode_below<const PRECISION: usize>(
 
 /// Decodes a number. It is in the range.
 fn decode_in_range(coder: &mut AnsCoder<Vec<u32>>, model: &UniformModel<u32, 24>) -> Option<usize>
-    ensures { IfSome result (λ place. place < length (⟦<UniformModel<u32, 24> as EntropyModel<24>>⟧.rows model.now)) }
+    ensures { IfSome result (λ place.
+        place < length (⟦<UniformModel<u32, 24> as EntropyModel<24>>⟧.rows model.now)) }
 {
     contiguous_symbols_have_entries();
     match coder.decode_symbol(model) {

@@ -1,7 +1,8 @@
-//! The tests of the coders, of stored weights, counts and bytes, and of laws that their callers use.
+//! The tests of the coders, of stored weights, counts and bytes, and of laws that their callers
+//! use.
 //!
-//! The libraries have no tests of their own, because a library with tests is proved twice. These tests use the public
-//! interface alone. Those of the folder `tried` are run and not proved.
+//! The libraries have no tests of their own, because a library with tests is proved twice. These
+//! tests use the public interface alone. Those of the folder `tried` are run and not proved.
 #![tactic(auto)]
 
 #[cfg(test)]

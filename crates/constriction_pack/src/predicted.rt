@@ -28,9 +28,10 @@ where
     P: Predictor<16, Symbol = bool, Model = Bit>,
     requires some { 0 < length bytes.now }
     requires short { length bytes.now ≤ 2 ^ 23 }
-    ensures coded { IfOk result (λ coded. IfSome coded (λ content. IsPredicted P.rows P.next (P.state predictor.old) bytes.now
-        content.items)) }
-    ensures shorter { IfOk result (λ coded. IfSome coded (λ content. length content.items < below)) }
+    ensures coded { IfOk result (λ coded. IfSome coded (λ content.
+        IsPredicted P.rows P.next (P.state predictor.old) bytes.now content.items)) }
+    ensures shorter { IfOk result (λ coded. IfSome coded (λ content.
+        length content.items < below)) }
 {
     let words = encode_bytes(alloc, predictor, bytes)?;
     if words.len() + 1 >= below / 4 {
@@ -46,10 +47,12 @@ where
 fn of_predicted<P>(alloc: Global, predictor: &mut P, content: &[u8]) -> Result<Vec<u8>, PackError>
 where
     P: Predictor<16, Symbol = bool, Model = Bit>,
-    ensures ok { IfOk result (λ bytes. IsPredicted P.rows P.next (P.state predictor.old) bytes.items content.now) }
-    ensures accepted { (bytes : List ℕ) → IsPredicted P.rows P.next (P.state predictor.old) bytes content.now
-        → IfErr result (λ error. error ≡ PackError.OutOfMemory) }
-    ensures errors { IfErr result (λ error. error ≢ PackError.OutOfMemory → error ≡ PackError.Damaged) }
+    ensures ok { IfOk result (λ bytes.
+        IsPredicted P.rows P.next (P.state predictor.old) bytes.items content.now) }
+    ensures accepted { (bytes : List ℕ) → IsPredicted P.rows P.next (P.state predictor.old) bytes
+        content.now → IfErr result (λ error. error ≡ PackError.OutOfMemory) }
+    ensures errors { IfErr result (λ error. error ≢ PackError.OutOfMemory
+        → error ≡ PackError.Damaged) }
 {
     let [first, second, third, fourth, coded @ ..] = content else {
         return Err(PackError::Damaged);
@@ -90,8 +93,10 @@ fn six_contexts(alloc: Global) -> Result<Mixer<6>, AllocError>
 fn by_few_contexts(alloc: Global, bytes: &[u8], below: usize) -> Result<Option<Vec<u8>>, AllocError>
     requires some { 0 < length bytes.now }
     requires short { length bytes.now ≤ 2 ^ 23 }
-    ensures coded { IfOk result (λ coded. IfSome coded (λ content. IsContent Kind.FewContexts bytes.now content.items)) }
-    ensures shorter { IfOk result (λ coded. IfSome coded (λ content. length content.items < below)) }
+    ensures coded { IfOk result (λ coded. IfSome coded (λ content.
+        IsContent Kind.FewContexts bytes.now content.items)) }
+    ensures shorter { IfOk result (λ coded. IfSome coded (λ content.
+        length content.items < below)) }
 {
     let mut mixer = two_contexts(alloc)?;
     predicted(alloc, &mut mixer, bytes, below)
@@ -105,8 +110,10 @@ fn by_many_contexts(
 ) -> Result<Option<Vec<u8>>, AllocError>
     requires some { 0 < length bytes.now }
     requires short { length bytes.now ≤ 2 ^ 23 }
-    ensures coded { IfOk result (λ coded. IfSome coded (λ content. IsContent Kind.ManyContexts bytes.now content.items)) }
-    ensures shorter { IfOk result (λ coded. IfSome coded (λ content. length content.items < below)) }
+    ensures coded { IfOk result (λ coded. IfSome coded (λ content.
+        IsContent Kind.ManyContexts bytes.now content.items)) }
+    ensures shorter { IfOk result (λ coded. IfSome coded (λ content.
+        length content.items < below)) }
 {
     let mut mixer = six_contexts(alloc)?;
     predicted(alloc, &mut mixer, bytes, below)
@@ -131,7 +138,8 @@ fn by_either(
 ) -> Result<Option<(Kind, Vec<u8>)>, AllocError>
     requires some { 0 < length bytes.now }
     requires short { length bytes.now ≤ 2 ^ 23 }
-    ensures coded { IfOk result (λ coded. IfSome coded (λ block. IsContent block.0 bytes.now block.1.items)) }
+    ensures coded { IfOk result (λ coded. IfSome coded (λ block.
+        IsContent block.0 bytes.now block.1.items)) }
     ensures shorter { IfOk result (λ coded. IfSome coded (λ block. length block.1.items < below)) }
 {
     let few = by_few_contexts(alloc, bytes, below)?;
@@ -145,7 +153,8 @@ fn by_either(
     }
 }
 
-/// The content by the contexts of the level, if it has any, and the content is shorter than `below`.
+/// The content by the contexts of the level, if it has any, and the content is shorter than
+/// `below`.
 pub(crate) fn by_contexts(
     alloc: Global,
     level: Level,
@@ -154,7 +163,8 @@ pub(crate) fn by_contexts(
 ) -> Result<Option<(Kind, Vec<u8>)>, AllocError>
     requires some { 0 < length bytes.now }
     requires short { length bytes.now ≤ 2 ^ 23 }
-    ensures coded { IfOk result (λ coded. IfSome coded (λ block. IsContent block.0 bytes.now block.1.items)) }
+    ensures coded { IfOk result (λ coded. IfSome coded (λ block.
+        IsContent block.0 bytes.now block.1.items)) }
     ensures shorter { IfOk result (λ coded. IfSome coded (λ block. length block.1.items < below)) }
 {
     match level {
@@ -172,7 +182,8 @@ pub(crate) fn of_few_contexts(alloc: Global, content: &[u8]) -> Result<Vec<u8>, 
     ensures ok { IfOk result (λ bytes. IsContent Kind.FewContexts bytes.items content.now) }
     ensures accepted { (bytes : List ℕ) → IsContent Kind.FewContexts bytes content.now
         → IfErr result (λ error. error ≡ PackError.OutOfMemory) }
-    ensures errors { IfErr result (λ error. error ≢ PackError.OutOfMemory → error ≡ PackError.Damaged) }
+    ensures errors { IfErr result (λ error. error ≢ PackError.OutOfMemory
+        → error ≡ PackError.Damaged) }
 {
     let mut mixer = two_contexts(alloc)?;
     of_predicted(alloc, &mut mixer, content)
@@ -183,7 +194,8 @@ pub(crate) fn of_many_contexts(alloc: Global, content: &[u8]) -> Result<Vec<u8>,
     ensures ok { IfOk result (λ bytes. IsContent Kind.ManyContexts bytes.items content.now) }
     ensures accepted { (bytes : List ℕ) → IsContent Kind.ManyContexts bytes content.now
         → IfErr result (λ error. error ≡ PackError.OutOfMemory) }
-    ensures errors { IfErr result (λ error. error ≢ PackError.OutOfMemory → error ≡ PackError.Damaged) }
+    ensures errors { IfErr result (λ error. error ≢ PackError.OutOfMemory
+        → error ≡ PackError.Damaged) }
 {
     let mut mixer = six_contexts(alloc)?;
     of_predicted(alloc, &mut mixer, content)

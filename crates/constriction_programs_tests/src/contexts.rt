@@ -1,4 +1,5 @@
-//! Blocks whose bits are predicted: their contents are those that a program of its own computed from the description of the format.
+//! Blocks whose bits are predicted: their contents are those that a program of its own computed
+//! from the description of the format.
 
 use crate::checks::{holds, same};
 use crate::packing::{are_refused_if_flipped, status_of};
@@ -26,7 +27,8 @@ const BY_MANY: &[u8] =
     \x9e\x3d\x67\x46\xb6\xd2\x13\x9c\x2d\x14\x07\xd8\xa5\xd7\x60\x92\x85\x57\x79\x83\x4f\x0e\x83\xe1\x4b\x88\xf4\xdc\
     \x67\x8b\xe4\x38\xa0\x51\x54\xd4\x44\xc6\x49\x15\x8d\xe5\x14\xb8\x92\xa0\xa6\xa8\xe8\x01\x85\x1c\x71\x19\x35\x86";
 
-/// Contents that no block has: no number of bytes, no bytes, 2^23 + 1 and 2^32 - 1 of them, and a word that was cut.
+/// Contents that no block has: no number of bytes, no bytes, 2^23 + 1 and 2^32 - 1 of them, and a
+/// word that was cut.
 const WRONG: [&[u8]; 5] = [
     b"\xcc\0\0",
     b"\0\0\0\0",
@@ -55,7 +57,8 @@ fn verses_are_packed_by_contexts_as_described(rt: HostRuntime) {
     are_packed(&rt, rt.alloc(), Level::Best, Kind::ManyContexts, BY_MANY);
 }
 
-/// Asserts that a file of one block by contexts is refused if it is cut anywhere, or if any bit is flipped.
+/// Asserts that a file of one block by contexts is refused if it is cut anywhere, or if any bit is
+/// flipped.
 fn are_refused_if_damaged(rt: &impl Abort, alloc: Global, level: Level) {
     let mut file = Vec::new(alloc);
     let mut bytes = VERSES;

@@ -1,5 +1,5 @@
-//! What contracts tell callers that parse lines, answer them, or run over whole inputs. A body that answers otherwise does not
-//! meet these contracts.
+//! What contracts tell callers that parse lines, answer them, or run over whole inputs. A body that
+//! answers otherwise does not meet these contracts.
 
 ghost use Rattle.std.specs.Prelude.{◌≡◌, ◌≢◌, ◌≤◌, ◌++◌, ℕ, List, Err, IfOk, IsNone, OnOk, Some, codes, length, string_bytes};
 ghost use Rattle.std.specs.Option.{option_map};

@@ -1,4 +1,5 @@
-//! Symbols whose models are learned: what comes back, a predictor of a caller's own, and what errors leave.
+//! Symbols whose models are learned: what comes back, a predictor of a caller's own, and what
+//! errors leave.
 
 ghost use Rattle.std.specs.Prelude.{◌≡◌, ◌<◌, ℕ, List, OnSome, fold, refl};
 ghost use Rattle.constriction.specs.Rows.{Row};
@@ -38,7 +39,10 @@ impl<'m> Predictor<6> for ByTurns<'m> {
 
     ghost State = { List (Row ℕ) × List (Row ℕ) };
 
-    ghost state = { λ p. (⟦<Letters as EntropyModel<6>>⟧.rows p.this.now, ⟦<Letters as EntropyModel<6>>⟧.rows p.other.now) };
+    ghost state = { λ p. (
+      ⟦<Letters as EntropyModel<6>>⟧.rows p.this.now,
+      ⟦<Letters as EntropyModel<6>>⟧.rows p.other.now,
+    ) };
 
     ghost rows = { λ s. s.0 };
 
@@ -88,7 +92,8 @@ where
     P: Predictor<PRECISION>,
     P::Symbol: Drop,
     requires { P.state decoding.old ≡ P.state encoding.old }
-    ensures learned { OnSome result (P.state encoding.new ≡ fold P.next (P.state encoding.old) symbols.now) }
+    ensures learned { OnSome result
+        (P.state encoding.new ≡ fold P.next (P.state encoding.old) symbols.now) }
     ensures one_state { OnSome result (P.state decoding.new ≡ P.state encoding.new) }
 {
     match queue::message_comes_back(alloc, encoding, decoding, symbols) {

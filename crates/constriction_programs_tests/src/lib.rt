@@ -1,9 +1,10 @@
 //! The tests of what the programs call: lines, whole inputs and packed files.
 //!
-//! The answers to lines are tested by the input and output of `constriction_rows` and `constriction_coder_program`.
+//! The answers to lines are tested by the input and output of `constriction_rows` and
+//! `constriction_coder_program`.
 //!
-//! The libraries have no tests of their own, because a library with tests is proved twice. These tests use the public
-//! interface alone.
+//! The libraries have no tests of their own, because a library with tests is proved twice. These
+//! tests use the public interface alone.
 #![tactic(auto)]
 
 #[cfg(test)]

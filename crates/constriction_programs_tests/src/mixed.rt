@@ -1,5 +1,5 @@
-//! What callers who code bytes by a mixer, or by the byte before, learn from contracts alone. A body that answers otherwise does not meet
-//! these contracts.
+//! What callers who code bytes by a mixer, or by the byte before, learn from contracts alone. A
+//! body that answers otherwise does not meet these contracts.
 
 ghost use Rattle.std.specs.Prelude.{◌≡◌, ◌≢◌, [], ◌∷◌, ℕ, List, Err, IfOk, OnOk, fold, length};
 ghost use Rattle.std.specs.Bool.{beq};
@@ -24,8 +24,8 @@ use std::convert::Infallible;
 fn encoded(alloc: Global, bytes: &[u8]) -> Result<Vec<u32>, AllocError>
     ensures message { IfOk result (λ words. IsMessageFrom (entry_in mixer_rows beq) mixer_after 16
         (mixer_begun (1 ∷ 3 ∷ 0 ∷ []) 262144 4194304 6) (all_bits bytes.now) words.items) }
-    ensures read { IfOk result (λ words. AreReadFrom mixer_rows mixer_after (mixer_begun (1 ∷ 3 ∷ 0 ∷ []) 262144 4194304 6)
-        bytes.now words.items) }
+    ensures read { IfOk result (λ words. AreReadFrom mixer_rows mixer_after
+        (mixer_begun (1 ∷ 3 ∷ 0 ∷ []) 262144 4194304 6) bytes.now words.items) }
 {
     let mut mixer = Mixer::<3>::new(alloc, [1, 3, 0], 262_144, 4_194_304, 6)?;
     encode_bytes(alloc, &mut mixer, bytes)
@@ -37,11 +37,12 @@ fn decoded(
     count: usize,
     words: Vec<u32>,
 ) -> Result<Vec<u8>, CoderError<DecoderFrontendError, Infallible>>
-    ensures read { IfOk result (λ bytes. AreReadFrom mixer_rows mixer_after (mixer_begun (1 ∷ 3 ∷ 0 ∷ []) 262144 4194304 6)
-        bytes.items words.items) }
+    ensures read { IfOk result (λ bytes. AreReadFrom mixer_rows mixer_after
+        (mixer_begun (1 ∷ 3 ∷ 0 ∷ []) 262144 4194304 6) bytes.items words.items) }
     ensures count { IfOk result (λ bytes. length bytes.items ≡ count) }
-    ensures valid { result ≡ Err (CoderError.Frontend DecoderFrontendError.InvalidData) → (bytes : List ℕ) → length bytes ≡ count
-        → ¬ (AreReadFrom mixer_rows mixer_after (mixer_begun (1 ∷ 3 ∷ 0 ∷ []) 262144 4194304 6) bytes words.items) }
+    ensures valid { result ≡ Err (CoderError.Frontend DecoderFrontendError.InvalidData)
+        → (bytes : List ℕ) → length bytes ≡ count → ¬ (AreReadFrom mixer_rows mixer_after
+        (mixer_begun (1 ∷ 3 ∷ 0 ∷ []) 262144 4194304 6) bytes words.items) }
 {
     let Ok(mut mixer) = Mixer::<3>::new(alloc, [1, 3, 0], 262_144, 4_194_304, 6) else {
         return Err(CoderError::Frontend(DecoderFrontendError::OutOfMemory));
@@ -69,18 +70,22 @@ fn there_and_back(
     decoded(alloc, bytes.len(), words)
 }
 
-/// Encodes bytes and decodes as many, by the byte before, in one call. Both predictors learn all bits of the bytes, and nothing else.
+/// Encodes bytes and decodes as many, by the byte before, in one call. Both predictors learn all
+/// bits of the bytes, and nothing else.
 fn by_the_byte_before(
     alloc: Global,
     encoding: &mut OrderOne,
     decoding: &mut OrderOne,
     bytes: &[u8],
 ) -> Result<Vec<u8>, AllocError>
-    requires { ⟦<OrderOne as Predictor<16>>⟧.state decoding.old ≡ ⟦<OrderOne as Predictor<16>>⟧.state encoding.old }
+    requires { ⟦<OrderOne as Predictor<16>>⟧.state decoding.old
+        ≡ ⟦<OrderOne as Predictor<16>>⟧.state encoding.old }
     ensures back { IfOk result (λ again. again.items ≡ bytes.now) }
-    ensures learned { OnOk result (⟦<OrderOne as Predictor<16>>⟧.state encoding.new
-        ≡ fold (contexts_after own_slot 256) (⟦<OrderOne as Predictor<16>>⟧.state encoding.old) (all_bits bytes.now)) }
-    ensures one_state { OnOk result (⟦<OrderOne as Predictor<16>>⟧.state decoding.new ≡ ⟦<OrderOne as Predictor<16>>⟧.state encoding.new) }
+    ensures learned { OnOk result
+        (⟦<OrderOne as Predictor<16>>⟧.state encoding.new ≡ fold (contexts_after own_slot 256)
+        (⟦<OrderOne as Predictor<16>>⟧.state encoding.old) (all_bits bytes.now)) }
+    ensures one_state { OnOk result (⟦<OrderOne as Predictor<16>>⟧.state decoding.new
+        ≡ ⟦<OrderOne as Predictor<16>>⟧.state encoding.new) }
 {
     bytes_come_back(alloc, encoding, decoding, bytes)
 }

@@ -16,7 +16,8 @@ const NINE: &[u8] = b"\x02\x00\x01\x00\x00\x02\x00\x01\x00";
 const RARE: &[u8] = b"\0\0\0\x01\0\0\0\0\0\0\0\0\0\0\0\0\0\x01\0\0\0\0\0\0\0\0\0\0\0\0\0\x01\
     \0\0\0\0\0\0\0\0\0\0\0\0\0\0\0\0\0\0\x01\0\0\0\0\0\0\0\0\0\0\0\0\0";
 
-/// Bytes, and the packed files of them. These come from a program written from the description of the format alone.
+/// Bytes, and the packed files of them. These come from a program written from the description of
+/// the format alone.
 const FILES: [(&[u8], &[u8]); 5] = [
     (
         b"",
@@ -91,7 +92,8 @@ fn files_are_packed_as_described(rt: HostRuntime) {
     holds(&rt, &again, RARE);
 }
 
-/// How many zeros there are, and how long their packed file is: a block of 1,048,576 is not followed by an empty one.
+/// How many zeros there are, and how long their packed file is: a block of 1,048,576 is not
+/// followed by an empty one.
 const ZEROS: [(usize, usize); 4] = [(5, 26), (7, 26), (1_048_576, 26), (1_048_577, 40)];
 
 #[test]
@@ -117,7 +119,8 @@ fn two_blocks_come_back(rt: HostRuntime) {
     holds(&rt, &again, &bytes);
 }
 
-/// Asserts that a file is refused with this error, and what was written before: a beginning of the bytes that were packed.
+/// Asserts that a file is refused with this error, and what was written before: a beginning of the
+/// bytes that were packed.
 fn is_refused(rt: &impl Abort, alloc: Global, file: &[u8], error: PackError, written: &[u8]) {
     let (result, again) = unpacked(alloc, u64::MAX, file);
     same(rt, result, Err(error));
@@ -185,8 +188,9 @@ fn are_refused_if_two_are_flipped(rt: &impl Abort, alloc: Global, file: &mut [u8
     }
 }
 
-/// Files that no bytes have, though their checksums are right: a kind that there is not, 2^32 - 1 times a byte, a header whose exclusive or
-/// is wrong, and a content that is longer than any. And nine bytes in the format of versions before 0.5.0.
+/// Files that no bytes have, though their checksums are right: a kind that there is not, 2^32 - 1
+/// times a byte, a header whose exclusive or is wrong, and a content that is longer than any. And
+/// nine bytes in the format of versions before 0.5.0.
 const WRONG_FILES: [(&[u8], PackError); 5] = [
     (
         b"cpk2\r\n\x1a\n\x85\x06\x00\x00\x83abcdef\x24\x27\x77\xa5\x78\x3f\xe3\x2b",
@@ -211,7 +215,8 @@ const WRONG_FILES: [(&[u8], PackError); 5] = [
     ),
 ];
 
-/// A file is refused if it is cut anywhere, if any bit or any two bytes are flipped, or if a byte follows.
+/// A file is refused if it is cut anywhere, if any bit or any two bytes are flipped, or if a byte
+/// follows.
 #[test]
 fn damaged_files_are_refused(rt: HostRuntime) {
     let alloc = rt.alloc();
@@ -230,8 +235,9 @@ fn damaged_files_are_refused(rt: HostRuntime) {
 /// The content of `RARE`.
 const CONTENT: &[u8] = b"\x40\x00\x00\x00\x01\x99\xd9\x03\xe5\x26\x88\x01\xec\xee";
 
-/// Contents that no block has: of the kind `Repeated` no bytes, too many, and a byte more; of the kind `Weighted` nothing, no bytes, 2^23 + 1,
-/// 2^32 - 1 and 50 of them, a weight that is cut, one with a byte too many, weights that do not add up, and a word that is cut.
+/// Contents that no block has: of the kind `Repeated` no bytes, too many, and a byte more; of the
+/// kind `Weighted` nothing, no bytes, 2^23 + 1, 2^32 - 1 and 50 of them, a weight that is cut, one
+/// with a byte too many, weights that do not add up, and a word that is cut.
 const WRONG_CONTENTS: [(Kind, &[u8]); 12] = [
     (Kind::Repeated, b"\0\0\0\0\x07"),
     (Kind::Repeated, b"\x01\0\x80\0\x07"),
@@ -294,7 +300,8 @@ fn nothing_is_written_beyond_the_limit(rt: HostRuntime) {
     }
 }
 
-/// What `unpack` answers if the reader fails after so many bytes, and what it writes to a slow writer.
+/// What `unpack` answers if the reader fails after so many bytes, and what it writes to a slow
+/// writer.
 fn unpacked_slowly(alloc: Global, rest: &[u8], turns: usize) -> (Result<(), PackError>, Vec<u8>) {
     let mut reader = SlowReader {
         rest,
@@ -322,8 +329,9 @@ fn packed_slowly(alloc: Global, rest: &[u8], turns: usize) -> (Result<(), PackEr
     (result, written)
 }
 
-/// Readers give one byte a turn, and fail at the one after the last: the end is not read twice. One that fails is not asked again, and what
-/// was written before stays. An interrupted call is made again.
+/// Readers give one byte a turn, and fail at the one after the last: the end is not read twice. One
+/// that fails is not asked again, and what was written before stays. An interrupted call is made
+/// again.
 #[test]
 fn readers_fail(rt: HostRuntime) {
     let alloc = rt.alloc();

@@ -1,4 +1,5 @@
-//! Runs over whole inputs, and over readers and writers that take or give one byte at a time, fail, or end.
+//! Runs over whole inputs, and over readers and writers that take or give one byte at a time, fail,
+//! or end.
 
 use crate::checks::{holds, prints, same};
 use constriction_io::write_whole;
@@ -10,8 +11,8 @@ use std::process::Abort;
 /// The greatest number of bytes that an input may have.
 const LIMIT: usize = 1_048_576;
 
-/// Is interrupted every other time. Gives one byte the other times, and fails once, after `turns` of them. If it is asked again, it gives
-/// the rest.
+/// Is interrupted every other time. Gives one byte the other times, and fails once, after `turns`
+/// of them. If it is asked again, it gives the rest.
 #[derive(Drop)]
 pub(crate) struct SlowReader<'a> {
     pub(crate) rest: &'a [u8],
@@ -42,7 +43,8 @@ impl Read for SlowReader<'_> {
     }
 }
 
-/// Is interrupted every other time. Takes one byte the other times, and fails after `turns` of them.
+/// Is interrupted every other time. Takes one byte the other times, and fails after `turns` of
+/// them.
 #[derive(Drop)]
 pub(crate) struct SlowWriter {
     pub(crate) taken: Vec<u8>,
@@ -107,7 +109,8 @@ impl Write for CountingWriter {
     }
 }
 
-/// An empty input, one that ends in an empty line, and one whose last line is not ended, with their answers.
+/// An empty input, one that ends in an empty line, and one whose last line is not ended, with their
+/// answers.
 const CASES: [(&str, &str); 3] = [
     ("", ""),
     ("\n\n", "bad line\nbad line\n"),
@@ -169,7 +172,8 @@ fn a_reader_that_fails_leaves_nothing_written(rt: HostRuntime) {
     );
 }
 
-/// What a run over ten empty lines answers if the writer fails after `turns` bytes, and what was written.
+/// What a run over ten empty lines answers if the writer fails after `turns` bytes, and what was
+/// written.
 fn run_to_slow(alloc: Global, turns: usize) -> (Result<(), RunFault>, Vec<u8>) {
     let mut reader = b"\n\n\n\n\n\n\n\n\n\n".as_slice();
     let mut writer = SlowWriter {
@@ -279,7 +283,8 @@ fn faults_have_their_status(rt: HostRuntime) {
     );
 }
 
-/// What a run over an input answers, in how many calls it reads, how many bytes it writes, and in how many calls.
+/// What a run over an input answers, in how many calls it reads, how many bytes it writes, and in
+/// how many calls.
 fn run_counted(alloc: Global, input: &[u8]) -> (Result<(), RunFault>, usize, usize, usize) {
     let mut reader = CountingReader {
         rest: input,
@@ -290,8 +295,8 @@ fn run_counted(alloc: Global, input: &[u8]) -> (Result<(), RunFault>, usize, usi
     (result, reader.turns, writer.bytes, writer.turns)
 }
 
-/// 20,000 lines are read as two pieces of 8,192 bytes, the rest, and the end. Their answers, 9 bytes each, are written as two pieces of
-/// 65,538 bytes and the rest.
+/// 20,000 lines are read as two pieces of 8,192 bytes, the rest, and the end. Their answers, 9
+/// bytes each, are written as two pieces of 65,538 bytes and the rest.
 #[test]
 fn an_input_is_read_and_answered_in_large_pieces(rt: HostRuntime) {
     let input = empty_lines(&rt, rt.alloc(), 20_000);

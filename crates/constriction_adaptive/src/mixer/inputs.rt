@@ -75,7 +75,8 @@ pub(crate) fn ask(
     strengths: &mut [u16],
 )
     requires path { path < 16 }
-    requires within { (k : ℕ) → k < length places.now → slice_index places.now k + 16 ≤ length slots.now }
+    requires within { (k : ℕ) → k < length places.now
+        → slice_index places.now k + 16 ≤ length slots.now }
     requires lengths { length strengths.old ≡ length places.now }
     ensures { strengths.new ≡ map (λ p. strength (slice_index slots.now (p + path))) places.now }
 {
@@ -117,7 +118,8 @@ pub(crate) fn adjust(weights: &mut [u32], strengths: &[u16], zero: u16, bit: boo
 #[inline]
 pub(crate) fn learn(slots: &mut [u16], places: &[usize], path: usize, bit: bool)
     requires path { path < 16 }
-    requires within { (k : ℕ) → k < length places.now → slice_index places.now k + 16 ≤ length slots.old }
+    requires within { (k : ℕ) → k < length places.now
+        → slice_index places.now k + 16 ≤ length slots.old }
     ensures { slots.new ≡ slots_moved bit path places.now slots.old }
 {
     for place in places {

@@ -32,9 +32,19 @@ pub(crate) struct Past {
 impl Model for Past {
     ghost Value = { PastState };
 
-    ghost view = { λ p. record { followers = p.followers.items; reach = p.reach; history = p.history; half = p.half; path = p.path; at = p.at; told = p.told } };
+    ghost view = { λ p. record {
+      followers = p.followers.items;
+      reach = p.reach;
+      history =
+          p.history;
+      half = p.half;
+      path = p.path;
+      at = p.at;
+      told = p.told;
+    } };
 
-    ghost invariant = { λ p. (0 < length p.followers.items) × (length p.followers.items < 2 ^ 32) × (0 < p.reach) × (p.reach ≤ 8) × (p.half < 32) × (p.path < 16) × (p.told < 16)
+    ghost invariant = { λ p. (0 < length p.followers.items) × (length p.followers.items < 2 ^ 32)
+        × (0 < p.reach) × (p.reach ≤ 8) × (p.half < 32) × (p.path < 16) × (p.told < 16)
         × (p.at < length p.followers.items) };
 }
 

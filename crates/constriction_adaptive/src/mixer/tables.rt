@@ -13,14 +13,16 @@ pub(crate) struct Tables {
     squashes: Vec<u16>,
     ghost many_strengths: { length strengths.items ≡ 4096 },
     ghost many_squashes: { length squashes.items ≡ 4096 },
-    ghost are_strengths: { (k : ℕ) → k < 4096 → slice_index strengths.items k ≡ 2048 + logarithm (2 * k + 1) - logarithm (8191 - 2 * k) },
+    ghost are_strengths: { (k : ℕ) → k < 4096
+        → slice_index strengths.items k ≡ 2048 + logarithm (2 * k + 1) - logarithm (8191 - 2 * k) },
     ghost are_squashes: { (k : ℕ) → k < 4096 → slice_index squashes.items k ≡ squash k },
 }
 
 /// Writes the strength of each 16 slots.
 fn fill_strengths(table: &mut [u16])
     requires { length table.old ≡ 4096 }
-    ensures { (k : ℕ) → k < 4096 → slice_index table.new k ≡ 2048 + logarithm (2 * k + 1) - logarithm (8191 - 2 * k) }
+    ensures { (k : ℕ) → k < 4096
+        → slice_index table.new k ≡ 2048 + logarithm (2 * k + 1) - logarithm (8191 - 2 * k) }
 {
     for i in 0..4096 {
         let odd = 2 * i as u32 + 1;

@@ -24,23 +24,25 @@ where
     ensures { MessageOnce (entry_at (entry_in P.rows P.Model.symbol_eq)) PRECISION }
 {}
 
-/// What is encoded from a state on comes back to a decoder whose predictor begins in that state, from any span of a message on, and from any
-/// source that tells the words, whatever words come after them.
+/// What is encoded from a state on comes back to a decoder whose predictor begins in that state,
+/// from any span of a message on, and from any source that tells the words, whatever words come
+/// after them.
 pub fn symbols_come_back<P, Source, const PRECISION: usize>(predictor: &P)
 where
     P: Predictor<PRECISION>,
     Source: ReadWords<u32, Queue>,
-    ensures { (first : P.State) → RangeMessageComesBack (placed P.next first) (entry_at (entry_in P.rows P.Model.symbol_eq)) PRECISION
-        (IsReadIn P.rows P.Model.stands_for P.Model.symbol_eq PRECISION Source.read_gives) Source.tells_upcoming
-        (StandsForEqual P.Model.stands_for P.Model.symbol_eq) }
+    ensures { (first : P.State)
+        → RangeMessageComesBack (placed P.next first) (entry_at (entry_in P.rows P.Model.symbol_eq))
+        PRECISION (IsReadIn P.rows P.Model.stands_for P.Model.symbol_eq PRECISION Source.read_gives)
+        Source.tells_upcoming (StandsForEqual P.Model.stands_for P.Model.symbol_eq) }
 {
     let _model = predictor.model();
 }
 
 /// The words of these symbols, from the state of the predictor on.
 ///
-/// It fails with `ImpossibleSymbol` only at a symbol without an entry, after the symbols before it were learned; and otherwise only if
-/// memory is refused.
+/// It fails with `ImpossibleSymbol` only at a symbol without an entry, after the symbols before it
+/// were learned; and otherwise only if memory is refused.
 pub fn encode_message<P, const PRECISION: usize>(
     alloc: Global,
     predictor: &mut P,
@@ -48,11 +50,13 @@ pub fn encode_message<P, const PRECISION: usize>(
 ) -> Result<Vec<u32>, CoderError<EncoderFrontendError, AllocError>>
 where
     P: Predictor<PRECISION>,
-    ensures ok { IfOk result (λ words. IsMessageFrom (entry_in P.rows P.Model.symbol_eq) P.next PRECISION (P.state predictor.old)
-        symbols.now words.items) }
-    ensures learned { OnOk result (P.state predictor.new ≡ fold P.next (P.state predictor.old) symbols.now) }
-    ensures err { (error : _) → result ≡ Err (CoderError.Frontend error) → StopsPredicting P.next (entry_in P.rows P.Model.symbol_eq)
-        symbols.now error (P.state predictor.old) (P.state predictor.new) }
+    ensures ok { IfOk result (λ words. IsMessageFrom (entry_in P.rows P.Model.symbol_eq) P.next
+        PRECISION (P.state predictor.old) symbols.now words.items) }
+    ensures learned { OnOk result
+        (P.state predictor.new ≡ fold P.next (P.state predictor.old) symbols.now) }
+    ensures err { (error : _) → result ≡ Err (CoderError.Frontend error)
+        → StopsPredicting P.next (entry_in P.rows P.Model.symbol_eq) symbols.now error
+        (P.state predictor.old) (P.state predictor.new) }
     ensures refused { (error : _) → result ≡ Err (CoderError.Backend error)
         → FirstAreLearned P.next symbols.now (P.state predictor.old) (P.state predictor.new) }
 {
@@ -69,7 +73,8 @@ where
 
 /// Decodes a message of `count` symbols from a source, which may have other words after it.
 ///
-/// If the source tells the words of as many symbols from the state of the predictor on, these come back, and the words are not invalid.
+/// If the source tells the words of as many symbols from the state of the predictor on, these come
+/// back, and the words are not invalid.
 pub fn decode_message<P, Source, const PRECISION: usize>(
     alloc: Global,
     predictor: &mut P,
@@ -81,14 +86,15 @@ where
     P::Symbol: Drop,
     Source: ReadWords<u32, Queue> + Drop,
     requires { Source.can_read source }
-    ensures back { IfOk result (λ answers. (symbols : List P.Symbol) (words more : List ℕ) → length symbols ≡ count
-        → IsMessageFrom (entry_in P.rows P.Model.symbol_eq) P.next PRECISION (P.state predictor.old) symbols words
-        → All (λ w. w < 2 ^ 32) more → Source.tells_upcoming source (words ++ more)
+    ensures back { IfOk result (λ answers. (symbols : List P.Symbol) (words more : List ℕ)
+        → length symbols ≡ count → IsMessageFrom (entry_in P.rows P.Model.symbol_eq) P.next
+        PRECISION (P.state predictor.old) symbols words → All (λ w. w < 2 ^ 32) more
+        → Source.tells_upcoming source (words ++ more)
         → AllZip (StandsForEqual P.Model.stands_for P.Model.symbol_eq) symbols answers.items
         × (P.state predictor.new ≡ fold P.next (P.state predictor.old) symbols)) }
     ensures valid { result ≡ Err (CoderError.Frontend DecoderFrontendError.InvalidData)
-        → (symbols : List P.Symbol) (words more : List ℕ) → length symbols ≡ count
-        → IsMessageFrom (entry_in P.rows P.Model.symbol_eq) P.next PRECISION (P.state predictor.old) symbols words
+        → (symbols : List P.Symbol) (words more : List ℕ) → length symbols ≡ count → IsMessageFrom
+        (entry_in P.rows P.Model.symbol_eq) P.next PRECISION (P.state predictor.old) symbols words
         → All (λ w. w < 2 ^ 32) more → ¬ (Source.tells_upcoming source (words ++ more)) }
 {
     symbols_come_back::<P, Source, PRECISION>(predictor);
@@ -102,8 +108,8 @@ where
     }
 }
 
-/// Encodes the symbols and decodes as many. If both predictors begin in one state, the symbols come back, whatever is predicted, and both
-/// end in one state.
+/// Encodes the symbols and decodes as many. If both predictors begin in one state, the symbols come
+/// back, whatever is predicted, and both end in one state.
 pub fn message_comes_back<P, const PRECISION: usize>(
     alloc: Global,
     encoding: &mut P,
@@ -120,12 +126,16 @@ where
     P: Predictor<PRECISION>,
     P::Symbol: Drop,
     requires { P.state decoding.old ≡ P.state encoding.old }
-    ensures back { IfOk result (λ answers. AllZip (StandsForEqual P.Model.stands_for P.Model.symbol_eq) symbols.now answers.items) }
-    ensures learned { OnOk result (P.state encoding.new ≡ fold P.next (P.state encoding.old) symbols.now) }
+    ensures back { IfOk result (λ answers.
+        AllZip (StandsForEqual P.Model.stands_for P.Model.symbol_eq) symbols.now answers.items) }
+    ensures learned { OnOk result
+        (P.state encoding.new ≡ fold P.next (P.state encoding.old) symbols.now) }
     ensures one_state { OnOk result (P.state decoding.new ≡ P.state encoding.new) }
-    ensures valid { result ≢ Err (MessageError.Decoding (CoderError.Frontend DecoderFrontendError.InvalidData)) }
-    ensures err { (error : _) → result ≡ Err (MessageError.Encoding (CoderError.Frontend error)) → StopsPredicting P.next
-        (entry_in P.rows P.Model.symbol_eq) symbols.now error (P.state encoding.old) (P.state encoding.new) }
+    ensures valid { result
+        ≢ Err (MessageError.Decoding (CoderError.Frontend DecoderFrontendError.InvalidData)) }
+    ensures err { (error : _) → result ≡ Err (MessageError.Encoding (CoderError.Frontend error))
+        → StopsPredicting P.next (entry_in P.rows P.Model.symbol_eq) symbols.now error
+        (P.state encoding.old) (P.state encoding.new) }
     ensures refused { (error : _) → result ≡ Err (MessageError.Encoding (CoderError.Backend error))
         → FirstAreLearned P.next symbols.now (P.state encoding.old) (P.state encoding.new) }
 {

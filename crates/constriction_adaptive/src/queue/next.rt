@@ -17,8 +17,9 @@ use std::alloc::AllocError;
 
 /// Encodes a symbol by the model that the predictor has for it, and learns it.
 ///
-/// It fails with `ImpossibleSymbol` only if the model has no entry for the symbol, with `OutOfMemory` only if memory to learn it is refused,
-/// and with `AllocError` only if a word is to be written. An error leaves the encoder and what was learned.
+/// It fails with `ImpossibleSymbol` only if the model has no entry for the symbol, with
+/// `OutOfMemory` only if memory to learn it is refused, and with `AllocError` only if a word is to
+/// be written. An error leaves the encoder and what was learned.
 pub fn encode_next<P, const PRECISION: usize>(
     predictor: &mut P,
     symbol: &P::Symbol,
@@ -26,10 +27,13 @@ pub fn encode_next<P, const PRECISION: usize>(
 ) -> Result<(), CoderError<EncoderFrontendError, AllocError>>
 where
     P: Predictor<PRECISION>,
-    ensures ok { OnOk result (IsNarrowed (entry_at (entry_in P.rows P.Model.symbol_eq) (P.state predictor.old, symbol.now)) PRECISION encoder.old encoder.new) }
-    ensures learned { OnOk result (P.state predictor.new ≡ P.next (P.state predictor.old) symbol.now) }
+    ensures ok { OnOk result (IsNarrowed (entry_at (entry_in P.rows P.Model.symbol_eq)
+        (P.state predictor.old, symbol.now)) PRECISION encoder.old encoder.new) }
+    ensures learned { OnOk result
+        (P.state predictor.new ≡ P.next (P.state predictor.old) symbol.now) }
     ensures tile { OnOk result (RowsTile 32 PRECISION (P.rows (P.state predictor.old))) }
-    ensures fault { IfErr result (λ error. IsEncodingFault (entry_at (entry_in P.rows P.Model.symbol_eq)) PRECISION error
+    ensures fault { IfErr result (λ error.
+        IsEncodingFault (entry_at (entry_in P.rows P.Model.symbol_eq)) PRECISION error
         (P.state predictor.old, symbol.now) encoder.old) }
     ensures same { OnErr result (encoder.new ≡ encoder.old) }
     ensures unlearned { OnErr result (P.state predictor.new ≡ P.state predictor.old) }
@@ -52,9 +56,10 @@ where
 
 /// Decodes a symbol by the model that the predictor has for it, and learns it.
 ///
-/// It fails with `InvalidData` only if the point lies above all quantiles, with `OutOfMemory` only if memory is refused, to the symbol or to
-/// learn it, and with the backend's error only if a read answered that. An error leaves what is held and what was learned, and only a read
-/// that failed may change the source.
+/// It fails with `InvalidData` only if the point lies above all quantiles, with `OutOfMemory` only
+/// if memory is refused, to the symbol or to learn it, and with the backend's error only if a read
+/// answered that. An error leaves what is held and what was learned, and only a read that failed
+/// may change the source.
 pub fn decode_next<P, Source, const PRECISION: usize>(
     predictor: &mut P,
     decoder: &mut RangeDecoder<Source>,
@@ -65,10 +70,13 @@ where
     Source: ReadWords<u32, Queue>,
     requires { Source.can_read decoder.old.words }
     ensures goes_on { Source.can_read decoder.new.words }
-    ensures ok { IfOk result (λ symbol. IsReadIn P.rows P.Model.stands_for P.Model.symbol_eq PRECISION Source.read_gives
+    ensures ok { IfOk result (λ symbol.
+        IsReadIn P.rows P.Model.stands_for P.Model.symbol_eq PRECISION Source.read_gives
         (P.state predictor.old, symbol) (held_by decoder.old) (held_by decoder.new)) }
-    ensures learned { IfOk result (λ symbol. P.state predictor.new ≡ P.next (P.state predictor.old) symbol) }
-    ensures fault { IfErr result (λ error. IsReadingFault Source.read_gives PRECISION error (held_by decoder.old) decoder.new.words) }
+    ensures learned { IfOk result (λ symbol.
+        P.state predictor.new ≡ P.next (P.state predictor.old) symbol) }
+    ensures fault { IfErr result (λ error.
+        IsReadingFault Source.read_gives PRECISION error (held_by decoder.old) decoder.new.words) }
     ensures same { OnErr result ((held_by decoder.new).held ≡ (held_by decoder.old).held) }
     ensures unlearned { OnErr result (P.state predictor.new ≡ P.state predictor.old) }
 {

@@ -16,7 +16,8 @@ use std::alloc::{AllocError, Global};
 
 /// Encodes the symbols, the first one first, each by the model that the predictor has for it.
 ///
-/// It fails as [`encode_next`](crate::queue::encode_next) does. The symbols before the one that was not encoded stay encoded and learned.
+/// It fails as [`encode_next`](crate::queue::encode_next) does. The symbols before the one that was
+/// not encoded stay encoded and learned.
 pub fn encode_adaptively<P, const PRECISION: usize>(
     predictor: &mut P,
     symbols: &[P::Symbol],
@@ -24,10 +25,13 @@ pub fn encode_adaptively<P, const PRECISION: usize>(
 ) -> Result<(), CoderError<EncoderFrontendError, AllocError>>
 where
     P: Predictor<PRECISION>,
-    ensures ok { OnOk result (AreCoded P.next (λ s. IsNarrowed (entry_at (entry_in P.rows P.Model.symbol_eq) s) PRECISION) symbols.now
+    ensures ok { OnOk result (AreCoded P.next
+        (λ s. IsNarrowed (entry_at (entry_in P.rows P.Model.symbol_eq) s) PRECISION) symbols.now
         (P.state predictor.old) encoder.old (P.state predictor.new) encoder.new) }
-    ensures tile { OnOk result (AllTile P.rows P.next PRECISION (P.state predictor.old) symbols.now) }
-    ensures err { IfErr result (λ error. EncodingStops P.next (λ s. IsNarrowed (entry_at (entry_in P.rows P.Model.symbol_eq) s) PRECISION)
+    ensures tile { OnOk result
+        (AllTile P.rows P.next PRECISION (P.state predictor.old) symbols.now) }
+    ensures err { IfErr result (λ error. EncodingStops P.next
+        (λ s. IsNarrowed (entry_at (entry_in P.rows P.Model.symbol_eq) s) PRECISION)
         (IsEncodingFault (entry_at (entry_in P.rows P.Model.symbol_eq)) PRECISION error) symbols.now
         (P.state predictor.old) encoder.old (P.state predictor.new) encoder.new) }
 {
@@ -42,8 +46,9 @@ where
 
 /// Decodes `count` symbols, each by the model that the predictor has for it.
 ///
-/// Memory for all of them is asked for first: if `count` comes from outside, use [`decode_next`](crate::queue::decode_next). The symbols
-/// before one that is not decoded are dropped, but stay decoded and learned.
+/// Memory for all of them is asked for first: if `count` comes from outside, use
+/// [`decode_next`](crate::queue::decode_next). The symbols before one that is not decoded are
+/// dropped, but stay decoded and learned.
 pub fn decode_adaptively<P, Source, const PRECISION: usize>(
     alloc: Global,
     predictor: &mut P,
@@ -57,15 +62,17 @@ where
     requires { Source.can_read decoder.old.words }
     ensures goes_on { Source.can_read decoder.new.words }
     ensures ok { IfOk result (λ answers. AreCoded P.next
-        (IsReadIn P.rows P.Model.stands_for P.Model.symbol_eq PRECISION Source.read_gives) answers.items
-        (P.state predictor.old) (held_by decoder.old) (P.state predictor.new) (held_by decoder.new)) }
+        (IsReadIn P.rows P.Model.stands_for P.Model.symbol_eq PRECISION Source.read_gives)
+        answers.items (P.state predictor.old) (held_by decoder.old) (P.state predictor.new)
+        (held_by decoder.new)) }
     ensures count { IfOk result (λ answers. length answers.items ≡ count) }
     ensures err { IfErr result (λ error. DecodingStops P.next
         (IsReadIn P.rows P.Model.stands_for P.Model.symbol_eq PRECISION Source.read_gives)
-        (λ reached new. IsReadingFault Source.read_gives PRECISION error reached new.source × (new.held ≡ reached.held)) count
-        (P.state predictor.old) (held_by decoder.old) (P.state predictor.new) (held_by decoder.new)
-        ⊎ ((error ≡ CoderError.Frontend DecoderFrontendError.OutOfMemory) × (P.state predictor.new ≡ P.state predictor.old)
-        × (held_by decoder.new ≡ held_by decoder.old))) }
+        (λ reached new. IsReadingFault Source.read_gives PRECISION error reached new.source
+        × (new.held ≡ reached.held)) count (P.state predictor.old) (held_by decoder.old)
+        (P.state predictor.new) (held_by decoder.new)
+        ⊎ ((error ≡ CoderError.Frontend DecoderFrontendError.OutOfMemory) × (P.state predictor.new
+        ≡ P.state predictor.old) × (held_by decoder.new ≡ held_by decoder.old))) }
 {
     let Ok(mut answers) = Vec::with_capacity(alloc, count) else {
         return Err(CoderError::Frontend(DecoderFrontendError::OutOfMemory));

@@ -19,7 +19,8 @@ pub(crate) type Entry = (u32, u32);
 fn entry_of_symbol<E, const PRECISION: usize>(model: &E, symbol: &E::Symbol) -> Option<Entry>
 where
     E: EncoderModel<PRECISION, Probability = u32>,
-    ensures known { IfSome result (λ entry. IsEntryAt PRECISION (entry_of E.symbol_eq (E.rows model.now)) symbol.now entry) }
+    ensures known { IfSome result (λ entry.
+        IsEntryAt PRECISION (entry_of E.symbol_eq (E.rows model.now)) symbol.now entry) }
     ensures none { result ≡ None → entry_of E.symbol_eq (E.rows model.now) symbol.now ≡ None }
 {
     match model.left_cumulative_and_probability(symbol) {
@@ -35,9 +36,10 @@ pub(crate) fn predicted<P, const PRECISION: usize>(
 ) -> Result<Entry, EncoderFrontendError>
 where
     P: Predictor<PRECISION>,
-    ensures ok { IfOk result (λ entry. IsEntryAt PRECISION (entry_at (entry_in P.rows P.Model.symbol_eq))
-        (P.state predictor.old, symbol.now) entry) }
-    ensures learned { IfOk result (λ _. P.state predictor.new ≡ P.next (P.state predictor.old) symbol.now) }
+    ensures ok { IfOk result (λ entry. IsEntryAt PRECISION
+        (entry_at (entry_in P.rows P.Model.symbol_eq)) (P.state predictor.old, symbol.now) entry) }
+    ensures learned { IfOk result (λ _.
+        P.state predictor.new ≡ P.next (P.state predictor.old) symbol.now) }
     ensures impossible { result ≡ Err EncoderFrontendError.ImpossibleSymbol
         → entry_in P.rows P.Model.symbol_eq (P.state predictor.old) symbol.now ≡ None }
     ensures unlearned { OnErr result (P.state predictor.new ≡ P.state predictor.old) }
@@ -61,11 +63,13 @@ pub(crate) fn entries_of<P, const PRECISION: usize>(
 ) -> Result<Vec<Entry>, EncoderFrontendError>
 where
     P: Predictor<PRECISION>,
-    ensures ok { IfOk result (λ entries. AllZip (IsEntryAt PRECISION (entry_at (entry_in P.rows P.Model.symbol_eq)))
+    ensures ok { IfOk result (λ entries.
+        AllZip (IsEntryAt PRECISION (entry_at (entry_in P.rows P.Model.symbol_eq)))
         (placed P.next (P.state predictor.old) symbols.now) entries.items) }
-    ensures learned { IfOk result (λ _. P.state predictor.new ≡ fold P.next (P.state predictor.old) symbols.now) }
-    ensures err { IfErr result (λ error. StopsPredicting P.next (entry_in P.rows P.Model.symbol_eq) symbols.now error
-        (P.state predictor.old) (P.state predictor.new)) }
+    ensures learned { IfOk result (λ _.
+        P.state predictor.new ≡ fold P.next (P.state predictor.old) symbols.now) }
+    ensures err { IfErr result (λ error. StopsPredicting P.next (entry_in P.rows P.Model.symbol_eq)
+        symbols.now error (P.state predictor.old) (P.state predictor.new)) }
 {
     let Ok(mut entries) = Vec::with_capacity(alloc, symbols.len()) else {
         return Err(EncoderFrontendError::OutOfMemory);

@@ -14,8 +14,8 @@ use std::alloc::AllocError;
 
 /// Decodes the symbol on top by the model that the predictor has for it, and learns it.
 ///
-/// Memory is refused only to the symbol or to learn it, and the backend's error is that of a read. An error leaves what the coder holds and
-/// what was learned.
+/// Memory is refused only to the symbol or to learn it, and the backend's error is that of a read.
+/// An error leaves what the coder holds and what was learned.
 pub fn decode_next<P, Backend, const PRECISION: usize>(
     predictor: &mut P,
     coder: &mut AnsCoder<Backend>,
@@ -24,9 +24,10 @@ where
     P: Predictor<PRECISION>,
     P::Symbol: Drop,
     Backend: StackSource<u32>,
-    ensures ok { IfOk result (λ symbol. IsTakenIn P.rows P.Model.stands_for P.Model.symbol_eq PRECISION (P.state predictor.old, symbol)
-        (held_by coder.old) (held_by coder.new)) }
-    ensures learned { IfOk result (λ symbol. P.state predictor.new ≡ P.next (P.state predictor.old) symbol) }
+    ensures ok { IfOk result (λ symbol. IsTakenIn P.rows P.Model.stands_for P.Model.symbol_eq
+        PRECISION (P.state predictor.old, symbol) (held_by coder.old) (held_by coder.new)) }
+    ensures learned { IfOk result (λ symbol.
+        P.state predictor.new ≡ P.next (P.state predictor.old) symbol) }
     ensures read { (error : _) → result ≡ Err (CoderError.Backend error)
         → Backend.read_gives coder.old.words (Err error) coder.new.words }
     ensures same { OnErr result (held_by coder.new ≡ held_by coder.old) }

@@ -24,14 +24,18 @@ use std::alloc::{AllocError, Global};
 pub fn symbols_come_back<P, const PRECISION: usize>()
 where
     P: Predictor<PRECISION>,
-    ensures { (first : P.State) → StackComesBack (placed P.next first) (entry_at (entry_in P.rows P.Model.symbol_eq)) PRECISION
-        (IsTakenIn P.rows P.Model.stands_for P.Model.symbol_eq PRECISION) (StandsForEqual P.Model.stands_for P.Model.symbol_eq) }
+    ensures { (first : P.State)
+        → StackComesBack (placed P.next first) (entry_at (entry_in P.rows P.Model.symbol_eq))
+        PRECISION (IsTakenIn P.rows P.Model.stands_for P.Model.symbol_eq PRECISION)
+        (StandsForEqual P.Model.stands_for P.Model.symbol_eq) }
 {}
 
-/// Predicts the symbols from the first to the last, and encodes them from the last to the first, so that decoding gives them in order.
+/// Predicts the symbols from the first to the last, and encodes them from the last to the first, so
+/// that decoding gives them in order.
 ///
-/// Eight bytes a symbol are asked for until they are encoded. If a symbol has no entry, or memory is refused, nothing is encoded, and the
-/// symbols before that one were learned. If a write fails, the symbols after one are encoded, and all were learned.
+/// Eight bytes a symbol are asked for until they are encoded. If a symbol has no entry, or memory
+/// is refused, nothing is encoded, and the symbols before that one were learned. If a write fails,
+/// the symbols after one are encoded, and all were learned.
 pub fn encode_adaptively<P, Backend, const PRECISION: usize>(
     alloc: Global,
     predictor: &mut P,
@@ -41,9 +45,11 @@ pub fn encode_adaptively<P, Backend, const PRECISION: usize>(
 where
     P: Predictor<PRECISION>,
     Backend: WordStack<u32>,
-    ensures ok { OnOk result (AreStacked P.next (entry_at (entry_in P.rows P.Model.symbol_eq)) PRECISION symbols.now
+    ensures ok { OnOk result
+        (AreStacked P.next (entry_at (entry_in P.rows P.Model.symbol_eq)) PRECISION symbols.now
         (P.state predictor.old) (held_by coder.old) (P.state predictor.new) (held_by coder.new)) }
-    ensures err { IfErr result (λ error. StackingStops P.next (entry_in P.rows P.Model.symbol_eq) PRECISION symbols.now error
+    ensures err { IfErr result (λ error.
+        StackingStops P.next (entry_in P.rows P.Model.symbol_eq) PRECISION symbols.now error
         (P.state predictor.old) (held_by coder.old) (P.state predictor.new) (held_by coder.new)) }
 {
     let model = predictor.model();
@@ -64,8 +70,9 @@ where
 
 /// Decodes `count` symbols, the one on top first, each by the model that the predictor has for it.
 ///
-/// Memory for all of them is asked for first: if `count` comes from outside, use [`decode_next`](crate::stack::decode_next). The symbols
-/// before one that is not decoded are dropped, but stay decoded and learned.
+/// Memory for all of them is asked for first: if `count` comes from outside, use
+/// [`decode_next`](crate::stack::decode_next). The symbols before one that is not decoded are
+/// dropped, but stay decoded and learned.
 pub fn decode_adaptively<P, Backend, const PRECISION: usize>(
     alloc: Global,
     predictor: &mut P,
@@ -76,14 +83,17 @@ where
     P: Predictor<PRECISION>,
     P::Symbol: Drop,
     Backend: StackSource<u32>,
-    ensures ok { IfOk result (λ answers. AreCoded P.next (IsTakenIn P.rows P.Model.stands_for P.Model.symbol_eq PRECISION) answers.items
+    ensures ok { IfOk result (λ answers. AreCoded P.next
+        (IsTakenIn P.rows P.Model.stands_for P.Model.symbol_eq PRECISION) answers.items
         (P.state predictor.old) (held_by coder.old) (P.state predictor.new) (held_by coder.new)) }
     ensures count { IfOk result (λ answers. length answers.items ≡ count) }
     ensures read { (error : _) → result ≡ Err (CoderError.Backend error)
         → (reached : Backend) × Backend.read_gives reached (Err error) coder.new.words }
-    ensures err { IfErr result (λ error. DecodingStops P.next (IsTakenIn P.rows P.Model.stands_for P.Model.symbol_eq PRECISION)
-        (λ reached new. new ≡ reached) count (P.state predictor.old) (held_by coder.old) (P.state predictor.new) (held_by coder.new)
-        ⊎ ((error ≡ CoderError.Frontend alloc_error) × (P.state predictor.new ≡ P.state predictor.old)
+    ensures err { IfErr result (λ error.
+        DecodingStops P.next (IsTakenIn P.rows P.Model.stands_for P.Model.symbol_eq PRECISION)
+        (λ reached new. new ≡ reached) count (P.state predictor.old) (held_by coder.old)
+        (P.state predictor.new) (held_by coder.new) ⊎ ((error ≡ CoderError.Frontend alloc_error)
+        × (P.state predictor.new ≡ P.state predictor.old)
         × (held_by coder.new ≡ held_by coder.old))) }
 {
     let mut answers = match Vec::with_capacity(alloc, count) {
@@ -99,8 +109,8 @@ where
     Ok(answers)
 }
 
-/// Encodes the symbols and decodes as many. If both predictors begin in one state, the symbols come back, whatever is predicted, both end in
-/// one state, and the coder holds what it held.
+/// Encodes the symbols and decodes as many. If both predictors begin in one state, the symbols come
+/// back, whatever is predicted, both end in one state, and the coder holds what it held.
 pub fn there_and_back<P, Backend, const PRECISION: usize>(
     alloc: Global,
     encoding: &mut P,
@@ -119,12 +129,15 @@ where
     P::Symbol: Drop,
     Backend: WordStack<u32>,
     requires { P.state decoding.old ≡ P.state encoding.old }
-    ensures back { IfOk result (λ answers. AllZip (StandsForEqual P.Model.stands_for P.Model.symbol_eq) symbols.now answers.items) }
-    ensures learned { OnOk result (P.state encoding.new ≡ fold P.next (P.state encoding.old) symbols.now) }
+    ensures back { IfOk result (λ answers.
+        AllZip (StandsForEqual P.Model.stands_for P.Model.symbol_eq) symbols.now answers.items) }
+    ensures learned { OnOk result
+        (P.state encoding.new ≡ fold P.next (P.state encoding.old) symbols.now) }
     ensures one_state { OnOk result (P.state decoding.new ≡ P.state encoding.new) }
     ensures same { OnOk result (held_by coder.new ≡ held_by coder.old) }
-    ensures err { (error : _) → result ≡ Err (MessageError.Encoding error) → StackingStops P.next (entry_in P.rows P.Model.symbol_eq)
-        PRECISION symbols.now error (P.state encoding.old) (held_by coder.old) (P.state encoding.new) (held_by coder.new) }
+    ensures err { (error : _) → result ≡ Err (MessageError.Encoding error)
+        → StackingStops P.next (entry_in P.rows P.Model.symbol_eq) PRECISION symbols.now error
+        (P.state encoding.old) (held_by coder.old) (P.state encoding.new) (held_by coder.new) }
 {
     symbols_come_back::<P, PRECISION>();
     match encode_adaptively(alloc, encoding, symbols, coder) {

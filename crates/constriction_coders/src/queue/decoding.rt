@@ -51,11 +51,13 @@ impl<Source: ReadWords<u32, Queue>, const PRECISION: usize> Decode<PRECISION>
     ghost decodes = { λ Symbol MayRefuse rows old r new.
         DecodesFromQueue MayRefuse rows Source.read_gives PRECISION (held_by old) r (held_by new) };
 
-    /// Decodes the next symbol. If all were decoded, it still decodes a symbol, or the data is invalid.
+    /// Decodes the next symbol. If all were decoded, it still decodes a symbol, or the data is
+    /// invalid.
     ///
-    /// It fails with `InvalidData` only if the point lies above all quantiles, with `OutOfMemory` only
-    /// if the model may refuse the row in which it lies, and with the backend's error only if a read
-    /// answered that. An error leaves what is held, and only a read that failed may change the source.
+    /// It fails with `InvalidData` only if the point lies above all quantiles, with `OutOfMemory`
+    /// only if the model may refuse the row in which it lies, and with the backend's error only if
+    /// a read answered that. An error leaves what is held, and only a read that failed may change
+    /// the source.
     fn decode_symbol<D>(
         &mut self,
         model: &D,

@@ -9,7 +9,8 @@ use constriction_backends::{Cursor, ReadWords};
 use constriction_words::Queue;
 use std::convert::Infallible;
 
-/// The words of an encoder that are written, and then the two of the least number of its span. It is read while the encoder stays.
+/// The words of an encoder that are written, and then the two of the least number of its span. It
+/// is read while the encoder stays.
 #[derive(Drop)]
 pub struct EncodedWords<'e> {
     written: Cursor<u32, &'e [u32]>,
@@ -34,10 +35,12 @@ impl<'e> EncodedWords<'e> {
 impl<'e> ReadWords<u32, Queue> for EncodedWords<'e> {
     type ReadError = Infallible;
 
-    ghost read_gives = { λ s r t. TakesFirst ((state_of s.written).after ++ (state_of s.lower).after) r
+    ghost read_gives = { λ s r t.
+        TakesFirst ((state_of s.written).after ++ (state_of s.lower).after) r
         ((state_of t.written).after ++ (state_of t.lower).after) };
 
-    ghost tells_upcoming = { λ s words. words ≡ (state_of s.written).after ++ (state_of s.lower).after };
+    ghost tells_upcoming = { λ s words.
+        words ≡ (state_of s.written).after ++ (state_of s.lower).after };
 
     fn read(&mut self) -> Result<Option<u32>, Infallible> {
         match ReadWords::<u32, Queue>::read(&mut self.written) {
@@ -51,5 +54,6 @@ impl<'e> ReadWords<u32, Queue> for EncodedWords<'e> {
         ReadWords::<u32, Queue>::maybe_exhausted(&self.lower)
     }
 
-    ghost reads_upcoming = { TakesFirst-upcoming (λ s. (state_of s.written).after ++ (state_of s.lower).after) };
+    ghost reads_upcoming = { TakesFirst-upcoming (λ s.
+        (state_of s.written).after ++ (state_of s.lower).after) };
 }

@@ -1,4 +1,5 @@
-//! Where a range coder stands: how many words are written, and the lower end and the size of its span.
+//! Where a range coder stands: how many words are written, and the lower end and the size of its
+//! span.
 
 ghost use Rattle.std.specs.Prelude.{◌≡◌, ◌≤◌, length};
 ghost use Rattle.constriction_backends.specs.Cursor.{buf_of};
@@ -11,7 +12,8 @@ use crate::queue::range_encoder::RangeEncoder;
 use constriction_backends::{Cursor, ReadWords, SafeBuf};
 use constriction_words::{Pos, PosSeek, Queue, Seek};
 
-/// The state of a range coder at a place: the lower two words of the least number of its span, and how many numbers the span has.
+/// The state of a range coder at a place: the lower two words of the least number of its span, and
+/// how many numbers the span has.
 #[derive(Clone, Copy, Debug, PartialEq, Eq)]
 pub struct RangeCoderState {
     lower: u64,
@@ -61,7 +63,8 @@ impl Pos for RangeEncoder {
     }
 }
 
-/// How far the point at a place lies above the lower end, modulo `2^64`. A word of it that is missing is 0.
+/// How far the point at a place lies above the lower end, modulo `2^64`. A word of it that is
+/// missing is 0.
 fn distance_at_place(words: &[u32], place: usize, state: RangeCoderState) -> u64
     requires { place ≤ length words.now }
     ensures { result ≡ distance_at (place, state) words.now }
@@ -74,11 +77,12 @@ fn distance_at_place(words: &[u32], place: usize, state: RangeCoderState) -> u64
 impl<Buf: SafeBuf<u32>> RangeDecoder<Cursor<u32, Buf>> {
     /// Goes to a place that was noted while the message was encoded, back or forth.
     ///
-    /// A place past the words is refused, and so is one whose span has fewer than `2^32` numbers, or has its upper end below the point. A
-    /// refusal leaves the decoder as it was.
+    /// A place past the words is refused, and so is one whose span has fewer than `2^32` numbers,
+    /// or has its upper end below the point. A refusal leaves the decoder as it was.
     pub fn seek(&mut self, pos: (usize, RangeCoderState)) -> Result<(), ()>
-        ensures sought { SeeksSpan ⟦<Cursor<u32, Buf> as ReadWords<u32, Queue>>⟧.tells_upcoming (Buf.words_of (buf_of self.old.words))
-            (held_by self.old) pos result (held_by self.new) }
+        ensures sought { SeeksSpan ⟦<Cursor<u32, Buf> as ReadWords<u32, Queue>>⟧.tells_upcoming
+            (Buf.words_of (buf_of self.old.words)) (held_by self.old) pos result
+            (held_by self.new) }
         ensures buf { buf_of self.new.words ≡ buf_of self.old.words }
     {
         let (place, state) = pos;

@@ -14,7 +14,8 @@ use thiserror::Error;
 /// Why nothing was decoded.
 #[derive(Debug, PartialEq, Eq, Drop, Error)]
 pub enum DecoderFrontendError {
-    /// The point belongs to no quantile, so these are not the words of a range encoder for such models.
+    /// The point belongs to no quantile, so these are not the words of a range encoder for such
+    /// models.
     #[error("The compressed data is invalid.")]
     InvalidData,
     #[error("Memory for the symbol was refused.")]
@@ -33,8 +34,8 @@ impl From<AllocError> for DecoderFrontendError {
 
 /// A range decoder over words of 32 bits, in the format of the Rust crate's `DefaultRangeDecoder`.
 ///
-/// Decoding does not depend on where the interval lies, so nothing ever wraps. The interval has at least `2^32` numbers. The point lies in
-/// it or, at the start, possibly just above it.
+/// Decoding does not depend on where the interval lies, so nothing ever wraps. The interval has at
+/// least `2^32` numbers. The point lies in it or, at the start, possibly just above it.
 #[derive(Drop)]
 pub struct RangeDecoder<Source: ReadWords<u32, Queue>> {
     pub(crate) range: u64,
@@ -51,10 +52,11 @@ pub(crate) fn next_or_zero<Source: ReadWords<u32, Queue>>(
 ) -> Result<u32, Source::ReadError>
     requires { Source.can_read source.old }
     ensures goes_on { Source.can_read source.new }
-    ensures ok { IfOk result (λ word. (answer : _) × Source.read_gives source.old (Ok answer) source.new
-        × (word ≡ word_or_zero answer)) }
+    ensures ok { IfOk result (λ word. (answer : _)
+        × Source.read_gives source.old (Ok answer) source.new × (word ≡ word_or_zero answer)) }
     ensures small { IfOk result (λ word. word < 2 ^ 32) }
-    ensures failed { (error : _) → result ≡ Err error → Source.read_gives source.old (Err error) source.new }
+    ensures failed { (error : _) → result ≡ Err error
+        → Source.read_gives source.old (Err error) source.new }
 {
     match source.read() {
         Ok(Some(word)) => Ok(word),
@@ -66,14 +68,17 @@ pub(crate) fn next_or_zero<Source: ReadWords<u32, Queue>>(
 impl<Source: ReadWords<u32, Queue> + Drop> RangeDecoder<Source> {
     ghost use Rattle.constriction_coders.specs.RangeDecoder.{held_by};
 
-    /// The decoder of these words. Two are read; one that is missing is 0. An error is that of a read.
+    /// The decoder of these words. Two are read; one that is missing is 0. An error is that of a
+    /// read.
     pub fn from_compressed(words: Source) -> Result<Self, Source::ReadError>
         requires { Source.can_read words }
         ensures goes_on { IfOk result (λ decoder. Source.can_read decoder.words) }
-        ensures ok { IfOk result (λ decoder. IsStart Source.read_gives words (held_by decoder).held decoder.words) }
-        ensures begins { IfOk result (λ decoder. (known : List ℕ) → Source.tells_upcoming words known → IsAt Source.tells_upcoming whole
-            known (held_by decoder)) }
-        ensures failed { (error : _) → result ≡ Err error → (reached left : Source) × Source.read_gives reached (Err error) left }
+        ensures ok { IfOk result (λ decoder.
+            IsStart Source.read_gives words (held_by decoder).held decoder.words) }
+        ensures begins { IfOk result (λ decoder. (known : List ℕ) → Source.tells_upcoming words
+            known → IsAt Source.tells_upcoming whole known (held_by decoder)) }
+        ensures failed { (error : _) → result ≡ Err error
+            → (reached left : Source) × Source.read_gives reached (Err error) left }
     {
         let mut words = words;
         let high = match next_or_zero(&mut words) {
@@ -94,11 +99,12 @@ impl<Source: ReadWords<u32, Queue> + Drop> RangeDecoder<Source> {
 impl<Source: ReadWords<u32, Queue>> RangeDecoder<Source> {
     ghost use Rattle.constriction_coders.specs.RangeDecoder.{held_by};
 
-    /// Whether all symbols may have been decoded. If nothing comes after the words of the message, `false` says that some are left.
+    /// Whether all symbols may have been decoded. If nothing comes after the words of the message,
+    /// `false` says that some are left.
     pub fn maybe_exhausted(&self) -> bool
         ensures near { IsTrue result → MayBeAtEnd (held_by self.now).held }
-        ensures left { OnFalse result (MayBeAtEnd (held_by self.now).held → (words : List ℕ) → Source.tells_upcoming self.now.words words
-            → words ≢ []) }
+        ensures left { OnFalse result (MayBeAtEnd (held_by self.now).held → (words : List ℕ)
+            → Source.tells_upcoming self.now.words words → words ≢ []) }
     {
         (self.range == u64::MAX || self.offset < (1 << 33) - 1) && self.words.maybe_exhausted()
     }

@@ -21,9 +21,10 @@ use std::marker::Model;
 
 /// A range encoder over words of 32 bits, in the format of the Rust crate's `DefaultRangeEncoder`.
 ///
-/// Clauses see the span of numbers that it holds, each of which stands for the message. A carry goes into the words that are written
-/// already, so no word is held back. A symbol costs two multiplications, and at most one word is written. If the lower end of its part
-/// carries, words of all ones are cleared, up to one that is not.
+/// Clauses see the span of numbers that it holds, each of which stands for the message. A carry
+/// goes into the words that are written already, so no word is held back. A symbol costs two
+/// multiplications, and at most one word is written. If the lower end of its part carries, words of
+/// all ones are cleared, up to one that is not.
 #[derive(Drop)]
 pub struct RangeEncoder {
     pub(crate) words: Vec<u32>,
@@ -84,7 +85,8 @@ impl RangeEncoder {
         self.range = u64::MAX;
     }
 
-    /// A copy of the words that [`into_compressed`](Self::into_compressed) gives. Memory for them is asked for once, if there are any.
+    /// A copy of the words that [`into_compressed`](Self::into_compressed) gives. Memory for them
+    /// is asked for once, if there are any.
     pub fn get_compressed(&self, alloc: Global) -> Result<Vec<u32>, AllocError>
         ensures ok { IfOk result (λ words. IsSealed self.now words.items) }
         ensures memory { OnErr result (self.now ≢ whole) }
@@ -98,9 +100,11 @@ impl RangeEncoder {
         sealed(all, self.lower, self.range)
     }
 
-    /// A decoder of what is encoded so far, while the encoder stays as it is. No memory is asked for, and no word is copied.
+    /// A decoder of what is encoded so far, while the encoder stays as it is. No memory is asked
+    /// for, and no word is copied.
     pub fn decoder<'e>(&'e self) -> RangeDecoder<EncodedWords<'e>>
-        ensures { (words : List ℕ) × LeadTo self.now words × IsAt ⟦<EncodedWords<'e> as ReadWords<u32, Queue>>⟧.tells_upcoming whole words
+        ensures { (words : List ℕ) × LeadTo self.now words
+            × IsAt ⟦<EncodedWords<'e> as ReadWords<u32, Queue>>⟧.tells_upcoming whole words
             (held_by result) }
     {
         let words = EncodedWords::new(self.words.as_slice(), self.lower);
@@ -110,7 +114,8 @@ impl RangeEncoder {
         }
     }
 
-    /// The words of the message, at most two more than were written. They are decoded alike whatever words come after them.
+    /// The words of the message, at most two more than were written. They are decoded alike
+    /// whatever words come after them.
     ///
     /// If memory for these words is refused, the encoder is dropped.
     pub fn into_compressed(self) -> Result<Vec<u32>, AllocError>

@@ -9,11 +9,13 @@ use crate::stack::state::{is_full_for, with_entry, without_entry};
 use constriction_backends::{StackSource, WordStack};
 use std::alloc::Global;
 
-/// A coder with a state of 64 bits over a stack of words of 32 bits, in the format of the Rust crate's `DefaultAnsCoder`.
+/// A coder with a state of 64 bits over a stack of words of 32 bits, in the format of the Rust
+/// crate's `DefaultAnsCoder`.
 ///
-/// It decodes from any source of a stack, as from a `Cursor` over words that are only lent, and encodes if its backend is a [`WordStack`].
-/// If the state is below `2^32`, there is no word under it. A symbol costs a division to encode and a multiplication to decode,
-/// and at most one word is written or read.
+/// It decodes from any source of a stack, as from a `Cursor` over words that are only lent, and
+/// encodes if its backend is a [`WordStack`]. If the state is below `2^32`, there is no word under
+/// it. A symbol costs a division to encode and a multiplication to decode, and at most one word is
+/// written or read.
 #[derive(Drop)]
 pub struct AnsCoder<Backend: StackSource<u32>> {
     pub(crate) state: u64,
@@ -36,7 +38,8 @@ impl AnsCoder<Vec<u32>> {
     }
 }
 
-/// The state with room for a symbol of this weight. If it has no room, its low word is first moved to the stack.
+/// The state with room for a symbol of this weight. If it has no room, its low word is first moved
+/// to the stack.
 #[inline]
 fn with_room<Backend: WordStack<u32>, const PRECISION: usize>(
     words: &mut Backend,
@@ -49,7 +52,8 @@ fn with_room<Backend: WordStack<u32>, const PRECISION: usize>(
     ensures room { IfOk result (λ kept. kept < weight * 2 ^ (64 - PRECISION)) }
     ensures whole { IfOk result (λ kept. (left : ℕ) → left + weight ≤ 2 ^ PRECISION
         → IsWhole (put PRECISION left weight kept) (Backend.words_of words.new)) }
-    ensures ok { IfOk result (λ kept. Refills kept (Backend.words_of words.new) (content state (Backend.words_of words.old))) }
+    ensures ok { IfOk result (λ kept.
+        Refills kept (Backend.words_of words.new) (content state (Backend.words_of words.old))) }
     ensures wrote { WritesAtMostOne Backend.write_gives words.old result words.new }
     ensures err { OnErr result (Backend.words_of words.new ≡ Backend.words_of words.old) }
 {
@@ -70,7 +74,8 @@ fn refilled<Backend: StackSource<u32>>(
 ) -> Result<u64, Backend::ReadError>
     requires some { state ≡ 0 → Backend.words_of words.old ≡ [] }
     ensures whole { IfOk result (λ new. IsWhole new (Backend.words_of words.new)) }
-    ensures ok { IfOk result (λ new. Refills state (Backend.words_of words.old) (content new (Backend.words_of words.new))) }
+    ensures ok { IfOk result (λ new.
+        Refills state (Backend.words_of words.old) (content new (Backend.words_of words.new))) }
     ensures read { ReadsAtMostOne Backend.read_gives words.old result words.new }
     ensures below { OnErr result (state < 2 ^ 32) }
     ensures left { OnErr result (Backend.words_of words.old ≢ []) }
@@ -89,8 +94,9 @@ fn refilled<Backend: StackSource<u32>>(
 impl<Backend: WordStack<u32>> AnsCoder<Backend> {
     ghost use Rattle.constriction_coders.specs.AnsCoder.{held_by};
 
-    /// Puts on top a symbol that has this left cumulative and weight. [`encode_symbol`](crate::Encode::encode_symbol) asks a model for them; symbols
-    /// whose entries are known before they are encoded need no model any more.
+    /// Puts on top a symbol that has this left cumulative and weight.
+    /// [`encode_symbol`](crate::Encode::encode_symbol) asks a model for them; symbols whose entries
+    /// are known before they are encoded need no model any more.
     ///
     /// The error is that of a write. It leaves the state and the words.
     #[inline]
@@ -102,7 +108,8 @@ impl<Backend: WordStack<u32>> AnsCoder<Backend> {
         requires precision { IsPrecision 32 PRECISION }
         requires some { 0 < weight }
         requires within { left + weight ≤ 2 ^ PRECISION }
-        ensures ok { OnOk result (IsOnTop PRECISION left weight (held_by self.new) (held_by self.old)) }
+        ensures ok { OnOk result
+            (IsOnTop PRECISION left weight (held_by self.new) (held_by self.old)) }
         ensures wrote { WritesAtMostOne Backend.write_gives self.old.words result self.new.words }
         ensures same { OnErr result (held_by self.new ≡ held_by self.old) }
     {
@@ -131,7 +138,8 @@ impl<Backend: StackSource<u32>> AnsCoder<Backend> {
         requires within { left + weight ≤ 2 ^ PRECISION }
         requires from { left ≤ self.old.state % 2 ^ PRECISION }
         requires to { self.old.state % 2 ^ PRECISION < left + weight }
-        ensures ok { OnOk result (IsOnTop PRECISION left weight (held_by self.old) (held_by self.new)) }
+        ensures ok { OnOk result
+            (IsOnTop PRECISION left weight (held_by self.old) (held_by self.new)) }
         ensures needs { OnErr result (NeedsWord PRECISION left weight (held_by self.old)) }
         ensures read { ReadsAtMostOne Backend.read_gives self.old.words result self.new.words }
         ensures same { OnErr result (held_by self.new ≡ held_by self.old) }

@@ -1,10 +1,12 @@
-//! Bits-back coding: a symbol is encoded by way of a latent symbol, which is decoded from what the coder holds.
+//! Bits-back coding: a symbol is encoded by way of a latent symbol, which is decoded from what the
+//! coder holds.
 //!
 //! 1. A latent symbol is decoded by the posterior, the model that the symbol chooses.
 //! 2. The symbol is encoded by the likelihood, the model that the latent symbol chooses.
 //! 3. The latent symbol is encoded by its prior.
 //!
-//! Decoding undoes these steps, the last one first. So step 1 costs nothing: what it took from the coder comes back.
+//! Decoding undoes these steps, the last one first. So step 1 costs nothing: what it took from the
+//! coder comes back.
 
 ghost use Rattle.std.specs.Prelude.{◌≡◌, ◌+◌, ◌%◌, ◌^◌, ◌<◌, ◌≤◌, ◌⊎◌, None, Some, Err, IfOk, IfSome, OnOk, OnErr, length, vec_capacity};
 ghost use Rattle.std.specs.Fn.{FnReturnsAt};
@@ -28,7 +30,8 @@ type Entry = (u32, u32);
 fn entry_of_symbol<E, const PRECISION: usize>(model: &E, symbol: &E::Symbol) -> Option<Entry>
 where
     E: EncoderModel<PRECISION, Probability = u32>,
-    ensures known { IfSome result (λ entry. entry_of E.symbol_eq (E.rows model.now) symbol.now ≡ Some (entry.0, entry.1)) }
+    ensures known { IfSome result (λ entry.
+        entry_of E.symbol_eq (E.rows model.now) symbol.now ≡ Some (entry.0, entry.1)) }
     ensures none { result ≡ None → entry_of E.symbol_eq (E.rows model.now) symbol.now ≡ None }
     ensures some { IfSome result (λ entry. 0 < entry.1) }
     ensures within { IfSome result (λ entry. entry.0 + entry.1 ≤ 2 ^ PRECISION) }
@@ -47,8 +50,9 @@ fn symbol_and_entry<D, const PRECISION: usize>(
 where
     D: DecoderModel<PRECISION, Probability = u32>,
     requires { quantile < 2 ^ PRECISION }
-    ensures found { IfOk result (λ answer. (row : Row D.Symbol) × IsRowOf (D.rows model.now) quantile row
-        × D.stands_for row.symbol answer.0 × (row.left ≡ answer.1.0) × (row.weight ≡ answer.1.1)) }
+    ensures found { IfOk result (λ answer. (row : Row D.Symbol)
+        × IsRowOf (D.rows model.now) quantile row × D.stands_for row.symbol answer.0
+        × (row.left ≡ answer.1.0) × (row.weight ≡ answer.1.1)) }
     ensures some { IfOk result (λ answer. 0 < answer.1.1) }
     ensures within { IfOk result (λ answer. answer.1.0 + answer.1.1 ≤ 2 ^ PRECISION) }
     ensures from { IfOk result (λ answer. answer.1.0 ≤ quantile) }
@@ -96,7 +100,8 @@ fn put_reserved<const PRECISION: usize>(coder: &mut AnsCoder<Vec<u32>>, entry: E
     may_be_held(coder);
 }
 
-/// Takes a symbol from the top and puts two others there. If memory for their words is refused, the coder stays as it was.
+/// Takes a symbol from the top and puts two others there. If memory for their words is refused, the
+/// coder stays as it was.
 fn exchange<const PRECISION: usize>(
     coder: &mut AnsCoder<Vec<u32>>,
     drawn: Entry,
@@ -112,8 +117,9 @@ fn exchange<const PRECISION: usize>(
     requires coded_within { coded.0 + coded.1 ≤ 2 ^ PRECISION }
     requires paid_some { 0 < paid.1 }
     requires paid_within { paid.0 + paid.1 ≤ 2 ^ PRECISION }
-    ensures ok { OnOk result ((rest full : Content) × IsOnTop PRECISION drawn.0 drawn.1 (held_by coder.old) rest × IsOnTop PRECISION coded.0
-        coded.1 full rest × IsOnTop PRECISION paid.0 paid.1 (held_by coder.new) full) }
+    ensures ok { OnOk result ((rest full : Content) × IsOnTop PRECISION drawn.0 drawn.1
+        (held_by coder.old) rest × IsOnTop PRECISION coded.0 coded.1 full rest
+        × IsOnTop PRECISION paid.0 paid.1 (held_by coder.new) full) }
     ensures same { OnErr result (held_by coder.new ≡ held_by coder.old) }
 {
     match coder.words.reserve(2) {
@@ -128,8 +134,9 @@ fn exchange<const PRECISION: usize>(
 
 /// Encodes a symbol by a latent one, which is decoded from what the coder holds.
 ///
-/// It fails with `ImpossibleSymbol` if the latent symbol has no entry in its prior, or the symbol has none in the likelihood. It also
-/// fails if memory is refused, for a clone of the latent symbol or for two words. An error leaves the state and the words.
+/// It fails with `ImpossibleSymbol` if the latent symbol has no entry in its prior, or the symbol
+/// has none in the likelihood. It also fails if memory is refused, for a clone of the latent symbol
+/// or for two words. An error leaves the state and the words.
 pub fn encode<
     Symbol,
     Latent: Drop,
@@ -149,12 +156,15 @@ pub fn encode<
     requires posterior { Posterior.IsAlwaysCallable posterior }
     requires likelihood { Likelihood.IsAlwaysCallable likelihood }
     ensures ok { OnOk result (IsCodedByLatent
-        (IsDecodedByChosen (FnReturnsAt Posterior.Fn posterior) PosteriorModel.rows PRECISION PosteriorModel.stands_for)
-        (IsEncodedByChosen (FnReturnsAt Likelihood.Fn likelihood) LikelihoodModel.rows PRECISION LikelihoodModel.symbol_eq)
-        (λ s. IsEncoded (entry_of Prior.symbol_eq (Prior.rows prior.now) s) PRECISION) symbol.now (held_by coder.new) (held_by coder.old)) }
-    ensures impossible { (fault : _) → result ≡ Err (CoderError.Frontend fault) → (latent : Latent) × IsChosenByState
-        (FnReturnsAt Posterior.Fn posterior) PosteriorModel.rows PRECISION PosteriorModel.stands_for symbol.now latent (held_by coder.old)
-        × (given : LikelihoodModel) × FnReturnsAt Likelihood.Fn likelihood latent given
+        (IsDecodedByChosen (FnReturnsAt Posterior.Fn posterior) PosteriorModel.rows PRECISION
+        PosteriorModel.stands_for) (IsEncodedByChosen (FnReturnsAt Likelihood.Fn likelihood)
+        LikelihoodModel.rows PRECISION LikelihoodModel.symbol_eq)
+        (λ s. IsEncoded (entry_of Prior.symbol_eq (Prior.rows prior.now) s) PRECISION) symbol.now
+        (held_by coder.new) (held_by coder.old)) }
+    ensures impossible { (fault : _) → result ≡ Err (CoderError.Frontend fault) → (latent : Latent)
+        × IsChosenByState (FnReturnsAt Posterior.Fn posterior) PosteriorModel.rows PRECISION
+        PosteriorModel.stands_for symbol.now latent (held_by coder.old) × (given : LikelihoodModel)
+        × FnReturnsAt Likelihood.Fn likelihood latent given
         × ((entry_of Prior.symbol_eq (Prior.rows prior.now) latent ≡ None)
         ⊎ (entry_of LikelihoodModel.symbol_eq (LikelihoodModel.rows given) symbol.now ≡ None)) }
     ensures same { OnErr result (held_by coder.new ≡ held_by coder.old) }
@@ -180,11 +190,13 @@ pub fn encode<
     }
 }
 
-/// Decodes a symbol that [`encode`] encoded by a latent one, and puts the latent one back on the coder.
+/// Decodes a symbol that [`encode`] encoded by a latent one, and puts the latent one back on the
+/// coder.
 ///
-/// It fails with `ImpossibleSymbol` if the posterior of the symbol has no entry for the latent one, which never comes after
-/// [`encode`] by models that fit together (`known` of [`bits_come_back`](crate::laws::bits_come_back)). It also fails if memory is
-/// refused, for a clone of either symbol or for a word. An error leaves the state and the words.
+/// It fails with `ImpossibleSymbol` if the posterior of the symbol has no entry for the latent one,
+/// which never comes after [`encode`] by models that fit together (`known` of
+/// [`bits_come_back`](crate::laws::bits_come_back)). It also fails if memory is refused, for a
+/// clone of either symbol or for a word. An error leaves the state and the words.
 pub fn decode<
     Symbol: Drop,
     Latent: Drop,
@@ -202,18 +214,22 @@ pub fn decode<
 ) -> Result<Symbol, CoderError<DefaultEncoderFrontendError, AllocError>>
     requires posterior { Posterior.IsAlwaysCallable posterior }
     requires likelihood { Likelihood.IsAlwaysCallable likelihood }
-    ensures ok { IfOk result (λ symbol. IsCodedByLatent
-        (IsEncodedByChosen (FnReturnsAt Posterior.Fn posterior) PosteriorModel.rows PRECISION PosteriorModel.symbol_eq)
-        (IsDecodedByChosen (FnReturnsAt Likelihood.Fn likelihood) LikelihoodModel.rows PRECISION LikelihoodModel.stands_for)
-        (IsDecoded Prior.stands_for (Prior.rows prior.now) PRECISION) symbol (held_by coder.old) (held_by coder.new)) }
-    ensures impossible { (fault : _) → result ≡ Err (CoderError.Frontend fault) → (latent : Latent) × (full : Content)
-        × IsDecoded Prior.stands_for (Prior.rows prior.now) PRECISION latent (held_by coder.old) full × (symbol : Symbol) × IsChosenByState
-        (FnReturnsAt Likelihood.Fn likelihood) LikelihoodModel.rows PRECISION LikelihoodModel.stands_for latent symbol full
-        × (chosen : PosteriorModel) × FnReturnsAt Posterior.Fn posterior symbol chosen
+    ensures ok { IfOk result (λ symbol. IsCodedByLatent (IsEncodedByChosen
+        (FnReturnsAt Posterior.Fn posterior) PosteriorModel.rows PRECISION PosteriorModel.symbol_eq)
+        (IsDecodedByChosen (FnReturnsAt Likelihood.Fn likelihood) LikelihoodModel.rows PRECISION
+        LikelihoodModel.stands_for) (IsDecoded Prior.stands_for (Prior.rows prior.now) PRECISION)
+        symbol (held_by coder.old) (held_by coder.new)) }
+    ensures impossible { (fault : _) → result ≡ Err (CoderError.Frontend fault)
+        → (latent : Latent) × (full : Content) × IsDecoded Prior.stands_for (Prior.rows prior.now)
+        PRECISION latent (held_by coder.old) full × (symbol : Symbol)
+        × IsChosenByState (FnReturnsAt Likelihood.Fn likelihood) LikelihoodModel.rows PRECISION
+        LikelihoodModel.stands_for latent symbol full × (chosen : PosteriorModel)
+        × FnReturnsAt Posterior.Fn posterior symbol chosen
         × (entry_of PosteriorModel.symbol_eq (PosteriorModel.rows chosen) latent ≡ None) }
     ensures same { OnErr result (held_by coder.new ≡ held_by coder.old) }
 {
-    // If no symbol is decoded, putting the latent one back leaves what the coder holds now, which it may hold.
+    // If no symbol is decoded, putting the latent one back leaves what the coder holds now, which
+    // it may hold.
     may_be_held(coder);
     let (latent, paid) = match symbol_and_entry::<Prior, PRECISION>(
         prior,

@@ -79,9 +79,9 @@ impl<Backend: StackSource<u32>, const PRECISION: usize> Decode<PRECISION> for An
 
     /// Decodes the symbol that was encoded last. If nothing was encoded, it still decodes a symbol.
     ///
-    /// Memory is refused only if the model may refuse the row of the state's quantile. The backend's
-    /// error comes only if the state needs a word and a read answered that error. An error leaves the
-    /// state and the words.
+    /// Memory is refused only if the model may refuse the row of the state's quantile. The
+    /// backend's error comes only if the state needs a word and a read answered that error. An
+    /// error leaves the state and the words.
     fn decode_symbol<D>(
         &mut self,
         model: &D,

@@ -37,12 +37,14 @@ impl<Backend: StackSource<u32>> AnsCoder<Backend> {
 }
 
 impl<Backend: WordStack<u32> + Drop> AnsCoder<Backend> {
-    /// The words with those of the state on top, from which [`from_compressed`](Self::from_compressed) makes the coder again.
+    /// The words with those of the state on top, from which
+    /// [`from_compressed`](Self::from_compressed) makes the coder again.
     ///
     /// At most two words are written. If a write fails, the words are dropped.
     pub fn into_compressed(self) -> Result<Backend, Backend::WriteError>
         ensures ok { IfOk result (λ words. IsCompressed (held_by self) (Backend.words_of words)) }
-        ensures end { IfOk result (λ words. (others : List ℕ) → Backend.words_of words ≢ others ++ 0 ∷ []) }
+        ensures end { IfOk result (λ words. (others : List ℕ)
+            → Backend.words_of words ≢ others ++ 0 ∷ []) }
         ensures wrote { WritesState Backend.write_gives self result }
     {
         let state = self.state;
@@ -67,7 +69,8 @@ impl<Backend: WordStack<u32> + Drop> AnsCoder<Backend> {
 impl<Backend: StackSource<u32> + Drop> AnsCoder<Backend> {
     /// The coder of such words.
     ///
-    /// At most two words are read. Words that end in 0 belong to no coder: they are handed back without that 0.
+    /// At most two words are read. Words that end in 0 belong to no coder: they are handed back
+    /// without that 0.
     pub fn from_compressed(words: Backend) -> Result<Self, CoderError<Backend, Backend::ReadError>>
         ensures ok { IfOk result (λ coder. IsCompressed (held_by coder) (Backend.words_of words)) }
         ensures refused { (left : _) → result ≡ Err (CoderError.Frontend left)

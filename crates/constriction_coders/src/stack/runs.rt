@@ -44,7 +44,8 @@ impl<Backend: WordStack<u32>> AnsCoder<Backend> {
         Ok(())
     }
 
-    /// Encodes symbols, each by a model of its own, from the back of an iterator on, so that decoding gives them from its front on.
+    /// Encodes symbols, each by a model of its own, from the back of an iterator on, so that
+    /// decoding gives them from its front on.
     pub fn encode_symbols_reverse<E, I, const PRECISION: usize>(
         &mut self,
         symbols_and_models: I,
@@ -54,18 +55,21 @@ impl<Backend: WordStack<u32>> AnsCoder<Backend> {
         E::Symbol: Drop,
         I: IntoIterator<Item = (E::Symbol, E)>,
         I::IntoIter: DoubleEndedIterator,
-        requires { IsFiniteIterable I.into_iter_gives I.IntoIter.can_next_back I.IntoIter.remaining symbols_and_models }
-        ensures { (given : I.IntoIter) × I.into_iter_gives symbols_and_models given × TakesItems I.IntoIter.next_back_gives given result
-            (λ done. InTurn (λ pair. ⟦<Self as Encode<PRECISION>>⟧.is_encoded
-            (entry_by E.symbol_eq E.rows pair)) done (held_by self.old) (held_by self.new))
-            (λ done pair error. StopsAt ⟦<Self as Code>⟧.held ⟦<Self as Encode<PRECISION>>⟧.is_encoded
+        requires { IsFiniteIterable I.into_iter_gives I.IntoIter.can_next_back I.IntoIter.remaining
+            symbols_and_models }
+        ensures { (given : I.IntoIter) × I.into_iter_gives symbols_and_models given
+            × TakesItems I.IntoIter.next_back_gives given result (λ done. InTurn
+            (λ pair. ⟦<Self as Encode<PRECISION>>⟧.is_encoded (entry_by E.symbol_eq E.rows pair))
+            done (held_by self.old) (held_by self.new)) (λ done pair error.
+            StopsAt ⟦<Self as Code>⟧.held ⟦<Self as Encode<PRECISION>>⟧.is_encoded
             ⟦<Self as Encode<PRECISION>>⟧.encodes (entry_by E.symbol_eq E.rows) done pair error
             (held_by self.old) self.new) }
     {
         self.encode_symbols::<E, _>(symbols_and_models.into_iter().rev())
     }
 
-    /// Encodes symbols by one model, from the back of an iterator on, so that decoding gives them from its front on.
+    /// Encodes symbols by one model, from the back of an iterator on, so that decoding gives them
+    /// from its front on.
     pub fn encode_iid_symbols_reverse<E, I, const PRECISION: usize>(
         &mut self,
         symbols: I,
@@ -76,13 +80,16 @@ impl<Backend: WordStack<u32>> AnsCoder<Backend> {
         E::Symbol: Drop,
         I: IntoIterator<Item = E::Symbol>,
         I::IntoIter: DoubleEndedIterator,
-        requires { IsFiniteIterable I.into_iter_gives I.IntoIter.can_next_back I.IntoIter.remaining symbols }
-        ensures { (given : I.IntoIter) × I.into_iter_gives symbols given × TakesItems I.IntoIter.next_back_gives given result
-            (λ done. InTurn (λ symbol. ⟦<Self as Encode<PRECISION>>⟧.is_encoded
-            (entry_of E.symbol_eq (E.rows model.now) symbol)) done (held_by self.old) (held_by self.new))
-            (λ done symbol error. StopsAt ⟦<Self as Code>⟧.held
-            ⟦<Self as Encode<PRECISION>>⟧.is_encoded ⟦<Self as Encode<PRECISION>>⟧.encodes
-            (entry_of E.symbol_eq (E.rows model.now)) done symbol error (held_by self.old) self.new) }
+        requires { IsFiniteIterable I.into_iter_gives I.IntoIter.can_next_back I.IntoIter.remaining
+            symbols }
+        ensures { (given : I.IntoIter) × I.into_iter_gives symbols given
+            × TakesItems I.IntoIter.next_back_gives given result
+            (λ done. InTurn (λ symbol. ⟦<Self as Encode<PRECISION>>⟧.is_encoded (entry_of
+            E.symbol_eq (E.rows model.now) symbol)) done (held_by self.old) (held_by self.new))
+            (λ done symbol error.
+            StopsAt ⟦<Self as Code>⟧.held ⟦<Self as Encode<PRECISION>>⟧.is_encoded
+            ⟦<Self as Encode<PRECISION>>⟧.encodes (entry_of E.symbol_eq (E.rows model.now)) done
+            symbol error (held_by self.old) self.new) }
     {
         self.encode_iid_symbols(symbols.into_iter().rev(), model)
     }

@@ -1,4 +1,5 @@
-//! Callers who code each symbol by a model of its own, proved from the contracts alone: one encodes, and another decodes.
+//! Callers who code each symbol by a model of its own, proved from the contracts alone: one
+//! encodes, and another decodes.
 
 ghost use Rattle.std.specs.Prelude.{◌≡◌, IfOk, IfSome, List, Option, length};
 ghost use Rattle.std.specs.Iterator.{IsFinite, YieldsFirst, YieldsLast};
@@ -22,7 +23,8 @@ use constriction_coders::stack::AnsCoder;
 use constriction_coders::{Encode, decode_symbols};
 use std::alloc::{AllocError, Global};
 
-/// The words of symbols that are encoded each by its own model, from the back of an iterator on, if the states of that show what is left.
+/// The words of symbols that are encoded each by its own model, from the back of an iterator on, if
+/// the states of that show what is left.
 pub fn words_of_pairs<E, I, const PRECISION: usize>(alloc: Global, pairs: I) -> Option<Vec<u32>>
 where
     E: EncoderModel<PRECISION, Probability = u32> + Drop,
@@ -31,7 +33,8 @@ where
     requires can_next_back { I.can_next_back pairs }
     requires ends { IsFinite (I.remaining pairs) }
     ensures { IfSome result (λ words. (rest : I → List (E.Symbol × E))
-        → ((s : I) (answer : Option (E.Symbol × E)) (t : I) → I.next_back_gives s answer t → YieldsLast rest s answer t)
+        → ((s : I) (answer : Option (E.Symbol × E)) (t : I) → I.next_back_gives s answer t
+        → YieldsLast rest s answer t)
         → IsStackOf (entry_by E.symbol_eq E.rows) PRECISION (rest pairs) words.items) }
 {
     let mut coder = AnsCoder::new(alloc);
@@ -45,7 +48,8 @@ where
     }
 }
 
-/// The symbols that a walk gives by the models of a slice, one after another, as a run from what the coder holds.
+/// The symbols that a walk gives by the models of a slice, one after another, as a run from what
+/// the coder holds.
 fn by_models<Backend, D, const PRECISION: usize>(
     alloc: Global,
     coder: &mut AnsCoder<Backend>,
@@ -56,7 +60,8 @@ where
     D: DecoderModel<PRECISION, Probability = u32>,
     D::Symbol: Drop,
     ensures count { IfOk result (λ answers. length answers.items ≡ length models.now) }
-    ensures run { IfOk result (λ answers. (left : Content) × InTurn (λ other. IsDecoded D.stands_for (D.rows other.1) PRECISION other.0)
+    ensures run { IfOk result (λ answers. (left : Content)
+        × InTurn (λ other. IsDecoded D.stands_for (D.rows other.1) PRECISION other.0)
         (zip answers.items models.now) (held_by coder.old) left) }
 {
     let mut answers = Vec::new(alloc);
@@ -70,7 +75,8 @@ where
     Ok(answers)
 }
 
-/// Symbols that are encoded each by its own model come back by other models, which have the same entries place by place.
+/// Symbols that are encoded each by its own model come back by other models, which have the same
+/// entries place by place.
 pub fn from_a_stack<D, E, const PRECISION: usize>(
     alloc: Global,
     pairs: Vec<(D::Symbol, E)>,
@@ -80,9 +86,11 @@ where
     D: DecoderModel<PRECISION, Probability = u32>,
     D::Symbol: Drop,
     E: EncoderModel<PRECISION, Symbol = D::Symbol, Probability = u32> + Drop,
-    requires { AllZip (λ pair model. SameEntries E.symbol_eq (E.rows pair.1) (D.rows model)) pairs.items models.now }
-    ensures { IfSome result (λ answers. AllZip (λ pair answer. StandsForEqual D.stands_for E.symbol_eq pair.0 answer)
-        pairs.items answers.items) }
+    requires { AllZip (λ pair model. SameEntries E.symbol_eq (E.rows pair.1) (D.rows model))
+        pairs.items models.now }
+    ensures { IfSome result (λ answers.
+        AllZip (λ pair answer. StandsForEqual D.stands_for E.symbol_eq pair.0 answer) pairs.items
+        answers.items) }
 {
     pairs_come_back::<D, E, PRECISION>();
     let Some(words) = words_of_pairs::<E, _, PRECISION>(alloc, pairs.into_iter()) else {
@@ -97,7 +105,8 @@ where
     }
 }
 
-/// The message of symbols that are encoded each by its own model, if the states of an iterator show what is left.
+/// The message of symbols that are encoded each by its own model, if the states of an iterator show
+/// what is left.
 pub fn message_of_pairs<E, I, const PRECISION: usize>(alloc: Global, pairs: I) -> Option<Vec<u32>>
 where
     E: EncoderModel<PRECISION, Probability = u32> + Drop,
@@ -106,7 +115,8 @@ where
     requires can_next { I.can_next pairs }
     requires ends { IsFinite (I.remaining pairs) }
     ensures { IfSome result (λ words. (rest : I → List (E.Symbol × E))
-        → ((s : I) (answer : Option (E.Symbol × E)) (t : I) → I.next_gives s answer t → YieldsFirst rest s answer t)
+        → ((s : I) (answer : Option (E.Symbol × E)) (t : I) → I.next_gives s answer t
+        → YieldsFirst rest s answer t)
         → IsMessageOf (entry_by E.symbol_eq E.rows) PRECISION (rest pairs) words.items) }
 {
     let mut coder = RangeEncoder::new(alloc);
@@ -147,7 +157,8 @@ where
     Ok(answers)
 }
 
-/// Symbols of a message that are encoded each by its own model come back by other models, which have the same entries place by place.
+/// Symbols of a message that are encoded each by its own model come back by other models, which
+/// have the same entries place by place.
 pub fn from_a_queue<D, E, const PRECISION: usize>(
     alloc: Global,
     pairs: Vec<(D::Symbol, E)>,
@@ -157,9 +168,11 @@ where
     D: DecoderModel<PRECISION, Probability = u32>,
     D::Symbol: Drop,
     E: EncoderModel<PRECISION, Symbol = D::Symbol, Probability = u32> + Drop,
-    requires { AllZip (λ pair model. SameEntries E.symbol_eq (E.rows pair.1) (D.rows model)) pairs.items models.now }
-    ensures { IfSome result (λ answers. AllZip (λ pair answer. StandsForEqual D.stands_for E.symbol_eq pair.0 answer)
-        pairs.items answers.items) }
+    requires { AllZip (λ pair model. SameEntries E.symbol_eq (E.rows pair.1) (D.rows model))
+        pairs.items models.now }
+    ensures { IfSome result (λ answers.
+        AllZip (λ pair answer. StandsForEqual D.stands_for E.symbol_eq pair.0 answer) pairs.items
+        answers.items) }
 {
     range_pairs_come_back::<D, E, Cursor<u32, Vec<u32>>, PRECISION>();
     let Some(words) = message_of_pairs::<E, _, PRECISION>(alloc, pairs.into_iter()) else {

@@ -24,7 +24,8 @@ pub fn by_any_model<M, const PRECISION: usize>(
 where
     M: EncoderModel<PRECISION, Probability = u32> + DecoderModel<PRECISION, Probability = u32>,
     M::Symbol: Drop,
-    ensures { IfSome result (λ answers. AllZip (StandsForEqual M.stands_for M.symbol_eq) symbols.now answers.items) }
+    ensures { IfSome result (λ answers.
+        AllZip (StandsForEqual M.stands_for M.symbol_eq) symbols.now answers.items) }
 {
     message_comes_back::<M, M, PRECISION>(alloc, model, model, symbols).ok()
 }
@@ -39,7 +40,8 @@ pub fn before_other_words<M, const PRECISION: usize>(
 where
     M: EncoderModel<PRECISION, Probability = u32> + DecoderModel<PRECISION, Probability = u32>,
     M::Symbol: Drop,
-    ensures { IfSome result (λ answers. AllZip (StandsForEqual M.stands_for M.symbol_eq) symbols.now answers.items) }
+    ensures { IfSome result (λ answers.
+        AllZip (StandsForEqual M.stands_for M.symbol_eq) symbols.now answers.items) }
 {
     let Ok(mut words) = message_of::<M, PRECISION>(alloc, model, symbols) else {
         return None;
@@ -64,7 +66,8 @@ pub fn while_encoding<M, const PRECISION: usize>(
 where
     M: EncoderModel<PRECISION, Probability = u32> + DecoderModel<PRECISION, Probability = u32>,
     M::Symbol: Drop,
-    ensures { IfSome result (λ answers. AllZip (StandsForEqual M.stands_for M.symbol_eq) symbols.now answers.items) }
+    ensures { IfSome result (λ answers.
+        AllZip (StandsForEqual M.stands_for M.symbol_eq) symbols.now answers.items) }
 {
     range_symbols_come_back::<M, M, EncodedWords, PRECISION>(model, model);
     let mut coder = RangeEncoder::new(alloc);
@@ -89,7 +92,8 @@ pub fn from_a_place<M, const PRECISION: usize>(
 where
     M: EncoderModel<PRECISION, Probability = u32> + DecoderModel<PRECISION, Probability = u32>,
     M::Symbol: Drop,
-    ensures { IfSome result (λ answers. AllZip (StandsForEqual M.stands_for M.symbol_eq) second.now answers.items) }
+    ensures { IfSome result (λ answers.
+        AllZip (StandsForEqual M.stands_for M.symbol_eq) second.now answers.items) }
 {
     range_place_comes_back::<M::Symbol, Cursor<u32, Vec<u32>>, PRECISION>();
     range_symbols_come_back::<M, M, Cursor<u32, Vec<u32>>, PRECISION>(model, model);
@@ -163,7 +167,8 @@ where
     }
 }
 
-/// A message of two symbols, each by a model of its own, from the law of places: the state says whether the first symbol is to come.
+/// A message of two symbols, each by a model of its own, from the law of places: the state says
+/// whether the first symbol is to come.
 pub fn in_two_states<M, const PRECISION: usize>(
     alloc: Global,
     first: &M,

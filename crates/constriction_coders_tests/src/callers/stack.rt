@@ -1,4 +1,5 @@
-//! Callers of a stack coder, proved from the contracts alone: words of another program, and bits-back coding.
+//! Callers of a stack coder, proved from the contracts alone: words of another program, and
+//! bits-back coding.
 
 ghost use Rattle.std.specs.Prelude.{◌+◌, ◌%◌, ◌≡◌, Err, IfOk, IfSome, List, length};
 ghost use Rattle.std.specs.List.{AllZip};
@@ -36,7 +37,8 @@ pub fn words_of_symbols<E, const PRECISION: usize>(
 ) -> Option<Vec<u32>>
 where
     E: EncoderModel<PRECISION, Probability = u32>,
-    ensures { IfSome result (λ words. IsStackOf (entry_of E.symbol_eq (E.rows encoder.now)) PRECISION symbols.now words.items) }
+    ensures { IfSome result (λ words.
+        IsStackOf (entry_of E.symbol_eq (E.rows encoder.now)) PRECISION symbols.now words.items) }
 {
     let mut coder = AnsCoder::new(alloc);
     match coder.encode_iid_slice_reverse(symbols, encoder) {
@@ -49,7 +51,8 @@ where
     }
 }
 
-/// Decodes `count` symbols from words that are only lent. If these are the words of `count` symbols, the symbols come back, and the words are not refused.
+/// Decodes `count` symbols from words that are only lent. If these are the words of `count`
+/// symbols, the symbols come back, and the words are not refused.
 pub fn symbols_of_words<M, const PRECISION: usize>(
     alloc: Global,
     model: &M,
@@ -62,7 +65,8 @@ where
     ensures back { IfOk result (λ answers. (symbols : List M.Symbol) → length symbols ≡ count
         → IsStackOf (entry_of M.symbol_eq (M.rows model.now)) PRECISION symbols words.now
         → AllZip (StandsForEqual M.stands_for M.symbol_eq) symbols answers.items) }
-    ensures accepted { result ≡ Err WordsError.OtherWords → (symbols : List M.Symbol) → length symbols ≡ count
+    ensures accepted { result ≡ Err WordsError.OtherWords → (symbols : List M.Symbol)
+        → length symbols ≡ count
         → ¬ (IsStackOf (entry_of M.symbol_eq (M.rows model.now)) PRECISION symbols words.now) }
 {
     encoded_once::<M::Symbol, PRECISION>();
@@ -81,7 +85,8 @@ where
     Ok(answers)
 }
 
-/// Symbols that were encoded before others, decoded from words that are only lent, at the place that was noted after them.
+/// Symbols that were encoded before others, decoded from words that are only lent, at the place
+/// that was noted after them.
 pub fn from_a_place<M, const PRECISION: usize>(
     alloc: Global,
     model: &M,
@@ -91,7 +96,8 @@ pub fn from_a_place<M, const PRECISION: usize>(
 where
     M: EncoderModel<PRECISION, Probability = u32> + DecoderModel<PRECISION, Probability = u32>,
     M::Symbol: Drop,
-    ensures { IfSome result (λ answers. AllZip (StandsForEqual M.stands_for M.symbol_eq) first.now answers.items) }
+    ensures { IfSome result (λ answers.
+        AllZip (StandsForEqual M.stands_for M.symbol_eq) first.now answers.items) }
 {
     encoded_once::<M::Symbol, PRECISION>();
     symbols_come_back::<M, M, PRECISION>(model, model);
@@ -127,7 +133,8 @@ where
 /// Numbers below a range.
 type Numbers = UniformModel<u32, 24>;
 
-/// The model of latent numbers that a number chooses. It is the same for all: three numbers of the same weight.
+/// The model of latent numbers that a number chooses. It is the same for all: three numbers of the
+/// same weight.
 fn posterior(_symbol: &usize) -> Numbers
     ensures { ⟦<Numbers as EntropyModel<24>>⟧.rows result ≡ uniform_rows 24 3 }
 {

@@ -20,7 +20,8 @@ where
     M: EncoderModel<PRECISION, Probability = u32> + DecoderModel<PRECISION, Probability = u32>,
     M::Symbol: Drop,
     requires { 0 < length models.now }
-    ensures { IfSome result (λ answers. AllZip (StandsForEqual M.stands_for M.symbol_eq) symbols.now answers.items) }
+    ensures { IfSome result (λ answers.
+        AllZip (StandsForEqual M.stands_for M.symbol_eq) symbols.now answers.items) }
 {
     let (mut encoding, mut decoding) = (KnownModels { models }, KnownModels { models });
     queue::message_comes_back::<KnownModels<M>, PRECISION>(
@@ -42,7 +43,8 @@ where
     M: EncoderModel<PRECISION, Probability = u32> + DecoderModel<PRECISION, Probability = u32>,
     M::Symbol: Drop,
     requires { 0 < length models.now }
-    ensures { IfSome result (λ answers. AllZip (StandsForEqual M.stands_for M.symbol_eq) symbols.now answers.items) }
+    ensures { IfSome result (λ answers.
+        AllZip (StandsForEqual M.stands_for M.symbol_eq) symbols.now answers.items) }
 {
     let (mut encoding, mut decoding) = (KnownModels { models }, KnownModels { models });
     stack::there_and_back(alloc, &mut encoding, &mut decoding, symbols, coder).ok()

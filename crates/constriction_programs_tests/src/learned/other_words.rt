@@ -15,7 +15,8 @@ use constriction_coders::queue::DecoderFrontendError;
 use constriction_coders::stack::AnsCoder;
 use std::alloc::AllocError;
 
-/// The words of the letters in a range coder, whole, cut and damaged, and the letters that they give by the formulas. A missing word is 0.
+/// The words of the letters in a range coder, whole, cut and damaged, and the letters that they
+/// give by the formulas. A missing word is 0.
 const MESSAGES: [(&[u32], [usize; 7]); 4] = [
     (&[0x03C2_4257, 0xFFFF_FF5F], SYMBOLS),
     (&[], [0; 7]),
@@ -42,7 +43,8 @@ fn a_message_that_is_cut_or_damaged_gives_other_letters(rt: HostRuntime) {
     }
 }
 
-/// A point above all quantiles is invalid, at the first letter or at a later one. The letters before it stay learned.
+/// A point above all quantiles is invalid, at the first letter or at a later one. The letters
+/// before it stay learned.
 #[test]
 fn an_invalid_letter_is_not_learned(rt: HostRuntime) {
     let alloc = rt.alloc();
@@ -126,7 +128,8 @@ where
     ghost next_law = { λ _ _ _ _. refl };
 }
 
-/// What a decoder gives are the symbols of its own model, which here has the weights of the encoder's and other symbols.
+/// What a decoder gives are the symbols of its own model, which here has the weights of the
+/// encoder's and other symbols.
 #[test]
 fn a_decoder_gives_the_symbols_of_its_model(rt: HostRuntime) {
     let alloc = rt.alloc();
