@@ -88,9 +88,11 @@ all-bits-push [] x = append-nil (bits_of x)
 all-bits-push (y ∷ ys) x =
     ap (λ (bs : List Bool). bits_of y ++ bs) (all-bits-push ys x) ∙ sym (append_assoc (bits_of y) (all_bits ys) (bits_of x))
 
+-- one byte more has eight bits more
 pub all-bits-take : (xs : List ℕ) (i : ℕ) → i < length xs → all_bits (take (i + 1) xs) ≡ all_bits (take i xs) ++ bits_of (get_or xs i 0)
 all-bits-take xs i less = ap all_bits (take_more xs i 0 less) ∙ all-bits-push (take i xs) (get_or xs i 0)
 
+-- bytes have eight bits each
 pub all-bits-length : (xs : List ℕ) → length (all_bits xs) ≡ 8 * length xs
 all-bits-length [] = refl
 all-bits-length (x ∷ xs) = omega (arith, length-append (bits_of x) (all_bits xs), all-bits-length xs)

@@ -39,6 +39,7 @@ cdf-made precision cdf f many long each last stored =
 
 -- what two loops leave of a cdf is a cdf
 module _ (precision : ℕ) (cdf : List ℕ) (t : IsCdf 32 precision cdf) where
+  -- a cdf has at least one row, and at most as many as quantiles
   pub cdf-some : (2 ≤ length cdf) × (length cdf ≤ 2 ^ precision + 1)
   cdf-some =
       let some = stored-some 32 precision (lefts_in cdf) t.stored in
@@ -46,6 +47,7 @@ module _ (precision : ℕ) (cdf : List ℕ) (t : IsCdf 32 precision cdf) where
       let all = stored-most precision (lefts_in cdf) t.stored 0 some in
       (omega (arith, some, long), omega (arith, all, long))
 
+  -- each symbol before has at least one quantile
   pub cdf-least : (k : ℕ) → k + 1 < length cdf → k ≤ get_or cdf k 0
   cdf-least k h =
       let long = cdf-long 32 precision cdf t in
@@ -58,6 +60,7 @@ module _ (precision : ℕ) (cdf : List ℕ) (t : IsCdf 32 precision cdf) where
       let most = stored-most precision (lefts_in cdf) t.stored k (omega (arith, h, long)) in
       omega (arith, h, long, here, most)
 
+  -- cumulatives that were lowered leave each later symbol a quantile
   pub lowered-most : (rate last : ℕ) (mid : List ℕ)
       → ((k : ℕ) → k < last + 1 → get_or mid k 0 ≡ get_or cdf k 0 - (get_or cdf k 0 - k) / 2 ^ rate)
       → ((k : ℕ) → last + 1 ≤ k → get_or mid k 0 ≡ get_or cdf k 0)
@@ -69,6 +72,7 @@ module _ (precision : ℕ) (cdf : List ℕ) (t : IsCdf 32 precision cdf) where
         | inr high ↦ let is = untouched k high in omega (arith, is, most)
       ]
 
+  -- cumulatives that were moved towards a symbol are a cdf
   pub moved-cdf : (rate symbol others last symbols : ℕ) (mid new : List ℕ) → precision ≤ 32 → symbols ≡ length cdf - 1
       → others ≡ 2 ^ precision - symbols → last ≡ min symbol (symbols - 1) → length new ≡ length cdf
       → ((k : ℕ) → k < last + 1 → get_or mid k 0 ≡ get_or cdf k 0 - (get_or cdf k 0 - k) / 2 ^ rate)
@@ -99,6 +103,7 @@ module _ (precision : ℕ) (cdf : List ℕ) (t : IsCdf 32 precision cdf) where
       final
       (moved-stored precision rate symbol lefts narrow t.stored)
 
+-- cumulatives of even weights are a cdf
 pub even-cdf : (precision symbols weight : ℕ) (lefts cdf : List ℕ) → precision ≤ 32 → 0 < symbols → symbols ≤ 2 ^ precision
     → 2 ^ precision < 2 ^ 32 * symbols → weight ≡ 2 ^ precision / symbols → length lefts ≡ symbols
     → ((k : ℕ) → k < symbols → get_or lefts k 0 ≡ k * weight) → cdf ≡ lefts ++ (2 ^ precision % 2 ^ 32) ∷ []
@@ -126,6 +131,7 @@ module _ (precision : ℕ) (cdf lent : List ℕ) (e : lent ≡ cdf) (t : IsCdf 3
   pub lent-words : IsCdf 32 precision (map (λ x. x) lent)
   lent-words = subst (λ xs. IsCdf 32 precision xs) (sym words-same) t
 
+  -- the words that are lent give the entry of a symbol
   pub lent-entry : (i l w : ℕ) → i < length lent - 1 → l ≡ get_or (lefts_in (map (λ x. x) lent)) i 0
       → w ≡ get_or (weights_of precision (lefts_in (map (λ x. x) lent))) i 0
       → Some (l, w) ≡ entry_of nat_eq (contiguous_rows (weights_of precision (lefts_in cdf))) i
@@ -135,11 +141,13 @@ module _ (precision : ℕ) (cdf lent : List ℕ) (e : lent ≡ cdf) (t : IsCdf 3
       (left ∙ ap (λ xs. get_or (lefts_in xs) i 0) words-same)
       (weight ∙ ap (λ xs. get_or (weights_of precision (lefts_in xs)) i 0) words-same)
 
+  -- a symbol past the rows has none
   pub lent-no_entry : (i : ℕ) → length lent - 1 ≤ i → None ≡ entry_of nat_eq (contiguous_rows (weights_of precision (lefts_in cdf))) i
   lent-no_entry i h =
       let long : length lent ≡ length cdf = ap length e in
       stored-no_entry 32 precision (lefts_in cdf) t.stored i (omega (arith, h, long, cdf-long 32 precision cdf t))
 
+  -- each row has quantiles, all below 2 ^ precision
   pub lent-within : (i l w : ℕ) → i < length lent - 1 → l ≡ get_or (lefts_in (map (λ x. x) lent)) i 0
       → w ≡ get_or (weights_of precision (lefts_in (map (λ x. x) lent))) i 0 → (0 < w) × (l + w ≤ 2 ^ precision)
   lent-within i l w h left weight =
@@ -154,6 +162,7 @@ module _ (precision : ℕ) (cdf lent : List ℕ) (e : lent ≡ cdf) (t : IsCdf 3
   pub lent-lefts : (cumulatives : List ℕ) → cumulatives ≡ map (λ x. x) (take (length lent - 1) lent) → cumulatives ≡ lefts_in cdf
   lent-lefts cumulatives are = are ∙ map-id (take (length lent - 1) lent) ∙ ap (λ xs. take (length xs - 1) xs) e
 
+  -- the row that is found among the words is the row of the quantile
   pub lent-row : (q i : ℕ) (r : Row ℕ) (cumulatives : List ℕ) → cumulatives ≡ lefts_in cdf → q < 2 ^ precision
       → IsLastAtMost cumulatives q i
       → get_or (contiguous_rows (weights_of precision (lefts_in (map (λ x. x) lent)))) i r ≡ r

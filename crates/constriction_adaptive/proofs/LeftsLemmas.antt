@@ -93,6 +93,7 @@ module _ (precision : ℕ) (lefts : List ℕ) (t : IsStored 32 precision lefts) 
       let after = stored-room k (i + 1) (omega (arith, e)) in
       omega (arith, row.positive, row.next (omega (arith, e)), after)
 
+  -- each left cumulative leaves the rows from it on a quantile each
   pub stored-most : (i : ℕ) → i < length lefts → get_or lefts i 0 + (length lefts - i) ≤ 2 ^ precision
   stored-most i h =
       let room = stored-room (length lefts - i - 1) i (omega (arith, h)) in omega (arith, room, h)
@@ -218,6 +219,7 @@ shares-within whole many i some few h =
       omega (arith, all, part),
     )
 
+-- the left cumulatives of even weights are stored as rows are
 pub even-stored : (precision symbols : ℕ) → precision ≤ 32 → 0 < symbols → symbols ≤ 2 ^ precision → 2 ^ precision < 2 ^ 32 * symbols
     → IsStored 32 precision (even_lefts precision symbols)
 even-stored precision symbols narrow some few word =

@@ -107,6 +107,7 @@ module _ {State : Type 0} (rows : State → List (Row Bool)) (next : State → B
   leaves-whole (x ∷ xs) state last e some all =
       some-symbol (entry_at (entry_in rows beq)) 16 (omega arith) (state, x) (placed next (next state x) xs) whole last (omega arith) e all
 
+  -- each state that bits were read in has rows that tile
   pub tiles-of : (xs : List Bool) (state : State) (old new : Held (List ℕ)) → InTurn Step (placed next state xs) old new
       → AllTile rows next 16 state xs
   tiles-of [] state old new d = All-nil Tiles

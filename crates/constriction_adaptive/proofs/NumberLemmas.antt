@@ -23,6 +23,7 @@ at_place c j x place from to below =
     let part : 128 * x / 2 ^ j < 256 = div_below (128 * x) (2 ^ j) 256 (pow_pos j) (omega arith) in
     rw e (omega arith)
 
+-- the logarithm of a number below 8192 is below 2048
 pub logarithm-below : (x : ℕ) → 0 < x → x < 8192 → logarithm x < 2048
 logarithm-below x some below =
     let t = leading_top 32 x some (omega (arith, below)) in at_place _ t.0 x t.1 t.2 t.3 below
@@ -31,6 +32,7 @@ logarithm-below x some below =
 tail_above : (r p : ℕ) → 0 < p → 128 ≤ (128 + r) * p
 tail_above r p some = let part : 128 * 1 ≤ (128 + r) * p = mul-le 128 1 (128 + r) p (omega arith) some in part
 
+-- the tail of a lead is at most 32768
 pub tail_most : (lead : ℕ) → tail lead ≤ 32768
 tail_most lead =
     let above : 128 ≤ (128 + lead % 128) * 2 ^ (lead / 128) = tail_above (lead % 128) (2 ^ (lead / 128)) (pow_pos (lead / 128)) in

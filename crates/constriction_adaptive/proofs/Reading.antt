@@ -28,6 +28,7 @@ module _ {S E : Type 0} (gives : S → Result (Option ℕ) E → S → Type 0) (
   told-word s None t read words known = let end = law s (Ok None) t read words known in ([], (end.0, refl), end.1)
   told-word s (Some w) t read words known = let next = law s (Ok (Some w)) t read words known in (next.0, next.1, next.2)
 
+  -- a source that tells its words starts as these words do
   pub told-start : (source : S) (held : Interval) (rest : S) → IsStart gives source held rest → (words : List ℕ) → tells source words
       → (left : List ℕ) × IsStart TakesFirst words held left × tells rest left
   told-start source held rest opened words known =
@@ -67,6 +68,7 @@ module _ {S E : Type 0} (gives : S → Result (Option ℕ) E → S → Type 0) (
           read.2,
         )
 
+    -- symbols are read from it as from these words
     pub told-turns : (places : List (State × Symbol)) (old new : Held S) → InTurn (IsReadIn rows Stands eq precision gives) places old new
         → (words : List ℕ) → tells old.source words
         → (left : List ℕ) × InTurn (IsReadIn rows Stands eq precision TakesFirst) places (holding old.held words) (holding new.held left)

@@ -13,6 +13,7 @@ use Rattle.constriction_coders.proofs.Stopping.{split-at-symbol}
 use Rattle.constriction_adaptive.specs.Predicted.{entry_in, AllTile, AreCoded, DecodingStops, EncodingStops}
 
 module _ {State Symbol : Type 0} (next : State → Symbol → State) where
+  -- symbols after others stand in the states that the others lead to
   pub placed-append : (first : State) (xs ys : List Symbol) → placed next first (xs ++ ys)
       ≡ placed next first xs ++ placed next (fold next first xs) ys
   placed-append first [] ys = refl
@@ -66,6 +67,7 @@ module _ {State Symbol : Type 0} (next : State → Symbol → State) where
             fault = fault;
           }))
 
+    -- a run that was cut short by a fault stops there
     pub decoding-stops : (Fault : C → C → Type 0) (count : ℕ) (xs : List Symbol) (first : State) (old : C) (between : State) (mid : C)
         (last : State) (new : C) → AreCoded next Step xs first old between mid → length xs < count → Fault mid new → last ≡ between
         → DecodingStops next Step Fault count first old last new
@@ -114,13 +116,16 @@ module _ {State Symbol : Type 0} (rows : State → List (Row Symbol)) (next : St
 
 module _ {State Symbol : Type 0} (rows : State → List (Row Symbol)) (eq : Symbol → Symbol → Bool) (precision : ℕ)
     (made : List (Row Symbol)) (state : State) (is : made ≡ rows state) where
+  -- a span narrowed by a model's entry is narrowed by the entry in its state
   pub narrowed-in : (symbol : Symbol) (old new : Span) → IsNarrowed (entry_of eq made symbol) precision old new
       → IsNarrowed (entry_at (entry_in rows eq) (state, symbol)) precision old new
   narrowed-in symbol old new step = subst (λ (r : List (Row Symbol)). IsNarrowed (entry_of eq r symbol) precision old new) is step
 
+  -- rows of a state that tile
   pub tile-in : RowsTile 32 precision made → RowsTile 32 precision (rows state)
   tile-in tile = subst (λ (r : List (Row Symbol)). RowsTile 32 precision r) is tile
 
+  -- a symbol decoded by a model's rows is decoded by the rows of its state
   pub decoded-in : {C : Type 0} (Step : List (Row Symbol) → Symbol → C → C → Type 0) (symbol : Symbol) (old new : C)
       → RowsTile 32 precision made → Step made symbol old new
       → IsDecodedAt eq (entry_in rows eq) rows precision Step (state, symbol) old new

@@ -24,6 +24,7 @@ top-of-word top state from to least less = elim (cases_lt top 32) [
   ]
 ]
 
+-- a content of whole words has 32 bits for each
 pub binary-bits : (c : Content) (words : List ℕ) (bits : ℕ) → HasValidBits c bits → IsBinary c words → bits ≡ 32 * length words
 binary-bits c words bits valid binary = go valid binary.words
   where
@@ -42,6 +43,7 @@ binary-bits c words bits valid binary = go valid binary.words
         let top = top-of-word v.0 c.state x.0 (omega (arith, parts.1)) v.1 v.2 in
         omega (arith, v.3, top, ap length parts.0, length_push c.words (c.state % 2 ^ 32))
 
+-- a content whose bits are a multiple of 32 is made of whole words
 pub binary-words : (c : Content) (bits : ℕ) → MayBeHeld c → HasValidBits c bits → bits % 32 ≡ 0 → (c ≡ content 0 [] → ⊥)
     → (words : List ℕ) × IsBinary c words
 binary-words c bits held (inl v) fill some = absurd (some (same-content c (content 0 []) v.0 (held.whole (omega (arith, v.0)))))

@@ -143,5 +143,6 @@ module _ {Symbol Latent PosteriorModel LikelihoodModel : Type 0}
         let posterior = posterior-back symbol full old e answer chosen same chooses in
         absurd (let lacks = rw posterior at none in cc)
 
+    -- a latent and its bits come back
     pub bits-come-back : Back
     bits-come-back = record { symbol = symbol-back-by-latent; symbols = symbols-back-by-latent; known = latent-known }

@@ -12,10 +12,12 @@ module _ {S E : Type 0} (gives : S → ℕ → Result (Unit {0}) E → S → Typ
   one-word : state < 2 ^ 32 → AreAllWordsOf (content state []) (state % 2 ^ 32 ∷ [])
   one-word small = let same : state % 2 ^ 32 ≡ state = omega (arith, small) in rw same (inr (inl (some, small, refl)))
 
+  -- a state of one word was written whole
   pub wrote-one : (to : S) → state < 2 ^ 32 → gives from (state % 2 ^ 32) (Ok tt) to
       → (own : List ℕ) × AreAllWordsOf (content state []) own × Writes gives from own to
   wrote-one to small step = (state % 2 ^ 32 ∷ [], one-word small, (to, step, refl))
 
+  -- a state of two words was written whole
   pub wrote-two : (reached to : S) → 2 ^ 32 ≤ state → gives from (state % 2 ^ 32) (Ok tt) reached
       → gives reached (state / 2 ^ 32) (Ok tt) to → (own : List ℕ) × AreAllWordsOf (content state []) own × Writes gives from own to
   wrote-two reached to least low high = (state % 2 ^ 32 ∷ state / 2 ^ 32 ∷ [], inr (inr (least, refl)), (reached, low, (to, high, refl)))

@@ -81,6 +81,7 @@ sum-positive : (ws : List ℕ) → sum (filter (λ w. nat_lt 0 w) ws) ≡ sum ws
 sum-positive [] = refl
 sum-positive (w ∷ ws) = grind (arith, common_steps, sum-positive ws)
 
+-- weights that fill the whole are accepted once those that are 0 are left out
 pub positive_accepted : (precision : ℕ) (ws : List ℕ) → sum ws ≡ 2 ^ precision → All (λ w. w < 2 ^ 32) ws
     → IsAccepted 32 precision (filter (λ w. nat_lt 0 w) ws)
 positive_accepted precision ws e fits = record {
@@ -105,6 +106,7 @@ same_sums (w ∷ ws) (v ∷ vs) long same =
     omega (arith, same (suc place), first, sum_by-cons (λ x. x) w (take place ws), sum_by-cons (λ x. x) v (take place vs))) in
     cc
 
+-- counts have one list of weights
 pub one_list : (precision : ℕ) (counts ws vs : List ℕ) → AreWeightsOf precision counts ws → AreWeightsOf precision counts vs → ws ≡ vs
 one_list precision counts ws vs t u =
     same_sums ws vs (t.as_many ∙ sym u.as_many) (λ place. t.before place ∙ sym (u.before place))

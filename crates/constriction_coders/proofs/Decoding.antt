@@ -24,9 +24,11 @@ module _ (unit offset left weight : ℕ) (from : unit * left ≤ offset) (to : o
         | inr none ↦ absurd (omega (arith, to, mul-le unit (left + weight) 0 (left + weight) none (omega arith)))
       ]
 
+  -- the quantile of an offset is not before its row
   pub quantile-from : left ≤ offset / unit
   quantile-from = le-div left offset unit some-unit (omega (arith, from))
 
+  -- it is not past its row
   pub quantile-to : offset / unit < left + weight
   quantile-to = div_below offset unit (left + weight) some-unit (omega (arith, to))
 
@@ -147,5 +149,6 @@ module _ {Symbol S E : Type 0} (Stands : Symbol → Symbol → Type 0) (eq : Sym
         is-at-part gives tells law part new words (interval (unit * e.weight) (offset - unit * e.left)) later.held now.source
         later.source (ap (λ n. interval (unit * e.weight) n) away) inside.0 here.known stretched e.next
 
+    -- the symbol comes back, and the rest is where it was
     pub range-symbol-back : StandsForEqual Stands eq symbol answer × IsAt tells new words later
     range-symbol-back = ((d.row.symbol, same-entry.0, d.stands), is-at-next)

@@ -19,6 +19,7 @@ module _ {Symbol I R : Type 0} (inner : R → I) (steps : I → Option Symbol �
   inner-yields s [] t e = ap inner e
   inner-yields s (x ∷ xs) t (j, step, others) = (inner j, step, inner-yields j xs t others)
 
+  -- what takes items from a wrapped iterator takes them from the inner one
   pub inner-takes : {E : Type 0} (s : R) (r : Result (Unit {0}) E) (OfAll : List Symbol → Type 0)
       (OfThose : List Symbol → Symbol → E → Type 0) → TakesItems (λ u answer v. steps (inner u) answer (inner v)) s r OfAll OfThose
       → TakesItems steps (inner s) r OfAll OfThose
@@ -51,6 +52,7 @@ module _ {Symbol Model I W : Type 0} (inner : W → I) (model : W → Model) (st
         rest.3,
       )
 
+  -- symbols that are taken with one model are taken as pairs with it
   pub taken-with : {E : Type 0} (m : Model) (s : W) (r : Result (Unit {0}) E) (OfPairs : List (Symbol × Model) → Type 0)
       (OfThosePairs : List (Symbol × Model) → Symbol × Model → E → Type 0) (OfAll : List Symbol → Type 0)
       (OfThose : List Symbol → Symbol → E → Type 0) → model s ≡ m → ((xs : List Symbol) → OfPairs (map (λ x. (x, m)) xs) → OfAll xs)

@@ -9,6 +9,7 @@ use Rattle.constriction_coders.specs.Steps.{Content, IsDecoded, IsEncoded}
 
 module _ {Symbol : Type 0} (Stands : Symbol → Symbol → Type 0) (eq : Symbol → Symbol → Bool) (entry : Symbol → Option (ℕ × ℕ))
     (rows : List (Row Symbol)) (precision : ℕ) (one : IsOneToOne eq entry precision rows) (clones : ClonesAreEqual eq Stands) where
+  -- what is decoded was encoded
   pub is-encoded : (symbol : Symbol) (full rest : Content) → IsDecoded Stands rows precision symbol full rest
       → IsEncoded (entry symbol) precision full rest
   is-encoded symbol full rest d = record {
@@ -24,6 +25,7 @@ module _ {Symbol : Type 0} (Stands : Symbol → Symbol → Type 0) (eq : Symbol 
   are-encoded [] full rest d = d
   are-encoded (s ∷ ss) full rest d = (d.0, is-encoded s full d.0 d.1, are-encoded ss d.0 rest d.2)
 
+  -- so encoding what was decoded goes back
   pub goes-back : EncodedOnce entry precision → DecodedGoesBack entry precision Stands rows
   goes-back once = record {
     known = λ symbol full rest d none. let known = (is-encoded symbol full rest d).known in cc;

@@ -24,10 +24,12 @@ module _ {Symbol Place S : Type 0} (places : List Symbol → List Place) (entry 
     as_many = few;
   })
 
+  -- all symbols came back
   pub came-back : length answers ≡ count → AllZip Back symbols answers
   came-back many =
       subst (λ (ss : List Symbol). AllZip Back ss answers) (take_all (length answers) symbols (omega (arith, many, long)))
       (follows (omega (arith, many, long))).back
 
+  -- a message that is not read to its end is not invalid data
   pub not-invalid : length answers < count → IsAboveAll precision now.held → ⊥
   not-invalid fewer = (follows (omega (arith, fewer, long))).valid (omega (arith, fewer, long))

@@ -83,6 +83,7 @@ module _ (precision left weight : ℕ) (positive : 0 < precision) (few : precisi
   within : old.size / 2 ^ precision * left + old.size / 2 ^ precision * weight ≤ old.size
   within = part-within precision old.size (old.size / 2 ^ precision) left weight (unit-within old.size precision) fits
 
+  -- the part of a span of a message is such a span once it is widened
   pub part-reached : (new : Span) → IsWidened (part_in precision left weight old) new → IsReached new
   part-reached new (inl same) =
       subst IsReached (sym same.1) (record {

@@ -12,6 +12,7 @@ word-more k =
     let sum : 32 * (k + 1) ≡ 32 * k + 32 = omega arith in
     ap (λ n. 2 ^ n) sum ∙ pow-add 2 (32 * k) 32
 
+-- two words more have 64 bits more
 pub two-words-more : (k : ℕ) → 2 ^ (32 * (k + 2)) ≡ 2 ^ (32 * k) * 2 ^ 64
 two-words-more k =
     let sum : 32 * (k + 2) ≡ 32 * k + 64 = omega arith in
@@ -23,11 +24,13 @@ first-append zero words more h = refl
 first-append (suc k) words more h =
     omega (arith, first-append k words more (omega arith), get_or_append_left words more 0 k (omega arith))
 
+-- the number of one word more
 pub first-more : (k : ℕ) (words : List ℕ) → number_first (k + 1) words ≡ number_first k words * 2 ^ 32 + get_or words k 0
 first-more k words =
     let next : k + 1 ≡ suc k = omega arith in
     ap (λ n. number_first n words) next
 
+-- the same at the end of a list
 pub number-push : (words : List ℕ) (word : ℕ) → number_of (words ++ word ∷ []) ≡ number_of words * 2 ^ 32 + word
 number-push words word =
     let long : length (words ++ word ∷ []) ≡ length words + 1 = length_push words word in

@@ -71,6 +71,7 @@ sealed-once s a b (inl p) (inr q) = absurd (q.0 p.0)
 sealed-once s a b (inr p) (inl q) = absurd (p.0 q.0)
 sealed-once s a b (inr p) (inr q) = point-once s a b p.1 q.1
 
+-- symbols have one message
 pub message-once : {Symbol : Type 0} (entry : Symbol → Option (ℕ × ℕ)) (precision : ℕ) → MessageOnce entry precision
 message-once entry precision symbols a b p q =
     let same : q.0 ≡ p.0 = run-once entry precision symbols whole q.0 p.0 q.1 p.1 in

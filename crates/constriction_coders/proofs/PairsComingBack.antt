@@ -38,6 +38,7 @@ module _ {Symbol Model Other : Type 0} (eq : Symbol → Symbol → Bool) (rows :
       let others = stack-back ps os mid rest under es on alike.1 in
       ((first.0, others.0), others.1)
 
+  -- symbols that are encoded by models of their own come back from a stack
   pub pairs-back : PairsComeBack eq rows Stands other_rows precision
   pairs-back = record {
     symbols = stack-back;
@@ -81,6 +82,7 @@ module _ {Symbol Model Other : Type 0} (eq : Symbol → Symbol → Bool) (rows :
         not-above (entry_by eq rows) precision tells words p mid e.0 now fit e.1
         (lies-run (entry_by eq rows) precision words fit ps e.0 last e.2 lies) here
 
+    -- they come back from a queue
     pub range-pairs-back : RangePairsComeBack eq rows Stands other_rows gives tells precision
     range-pairs-back pairs after others first mid last words start now reached e f message here d alike =
         let all = turns-append (λ s. IsNarrowed (entry_by eq rows s) precision) pairs after first mid last e f in

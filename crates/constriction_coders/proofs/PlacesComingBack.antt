@@ -55,6 +55,7 @@ module _ {State Symbol Place : Type 0} (places : State → List Symbol → List 
         (subst (λ (c : Content). InTurn Decodes (places (next state x) ts) c under) first.1 on) (omega arith) in
         ((first.0, others.0), others.1)
 
+    -- symbols whose models depend on those before come back from a stack
     pub stack-back : (first : State) → StackComesBack (places first) entry precision Decodes Back
     stack-back first = record {
       symbols = λ symbols answers. symbols-back symbols answers first;
@@ -130,6 +131,7 @@ module _ {State Symbol Place : Type 0} (places : State → List Symbol → List 
         let led : InTurn (λ s. IsNarrowed (entry s) precision) (put state x ∷ places (next state x) xs) first last = rw (more state x xs) at e in
         some-symbol entry precision positive (put state x) (places (next state x) xs) first last bound led all
 
+    -- they come back from a queue
     pub range-back : (state : State) → RangeMessageComesBack (places state) entry precision Reads tells Back
     range-back state first last symbols answers words now h =
         let both = follows symbols answers state first last words h.start now h.message.fit h.encoded

@@ -21,6 +21,7 @@ module _ {Symbol : Type 0} (entry : Symbol → Option (ℕ × ℕ)) (precision :
       let others = kept-under ss p.0 noted p.2 in
       (others.0 ++ first.0, first.1 ∙ ap (λ ws. ws ++ first.0) others.1 ∙ append_assoc noted.words others.0 first.0)
 
+  -- a place that was noted on a stack can be gone back to
   pub place-comes-back : PlaceComesBack entry precision
   place-comes-back symbols noted full old new more there r held led is sought = go r sought
     where

@@ -17,6 +17,7 @@ fit zero d h = omega arith
 fit (suc zero) d h = omega arith
 fit (suc (suc k)) d h = absurd (omega (arith, h))
 
+-- the published words are the message of the published entries
 pub published : IsMessageOf (λ e. Some e) 24 published_entries published_words
 published = (
   span 8725950630511536324594368512 11369832408896503808 1,

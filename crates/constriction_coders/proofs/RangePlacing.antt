@@ -63,6 +63,7 @@ module _ {Symbol S : Type 0} (entry : Symbol → Option (ℕ × ℕ)) (precision
         (sym (same ∙ none)) (omega arith, in-whole words fit)
     near (x ∷ xs) noted last words bound fit e none = absurd (some-symbol entry precision positive x xs noted last bound e none)
 
+    -- a place that was noted in a queue can be gone back to
     pub range-place-back : RangePlaceComesBack entry precision tells
     range-place-back symbols noted last words more there old new r reached led sealed fit is moved =
         let told : LeadTo last there = rw is (sealed-tell last words more sealed fit) in

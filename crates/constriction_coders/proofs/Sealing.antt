@@ -94,6 +94,7 @@ point-first s words more fit sealed =
           (omega (arith, front), omega (arith, front), omega (arith, front, sealed.to))
     ]
 
+-- the words that seal a span tell a number in it
 pub sealed-tell : SealedWordsTell
 sealed-tell s words more (inl none) fit = record {
   fit = subst (λ (ws : List ℕ). All (λ w. w < 2 ^ 32) (ws ++ more)) (sym none.1) fit;

@@ -8,6 +8,7 @@ use Rattle.constriction_coders.proofs.Narrowing.{part-within, part-less, unit-wi
 use Rattle.constriction_coders.proofs.NumberLemmas.{word-fits, first-more}
 
 module _ (words : List ℕ) (fit : All (λ w. w < 2 ^ 32) words) where
+  -- words in a span that was widened lie in the span before
   pub lies-unwidened : (part new : Span) → IsWidened part new → LiesIn new words → LiesIn part words
   lies-unwidened part new (inl same) lies = subst (λ (s : Span). LiesIn s words) same.1 lies
   lies-unwidened part new (inr wider) lies =
@@ -21,6 +22,7 @@ module _ (words : List ℕ) (fit : All (λ w. w < 2 ^ 32) words) where
       (omega (arith, there.0, more, word), omega (arith, there.1, more, word))
 
 module _ {Symbol : Type 0} (entry : Symbol → Option (ℕ × ℕ)) (precision : ℕ) where
+  -- words in a span after a symbol lie in the span before it
   pub lies-back : (symbol : Symbol) (old new : Span) (words : List ℕ) → All (λ w. w < 2 ^ 32) words
       → IsNarrowed (entry symbol) precision old new → LiesIn new words → LiesIn old words
   lies-back symbol old new words fit e lies =
@@ -28,12 +30,14 @@ module _ {Symbol : Type 0} (entry : Symbol → Option (ℕ × ℕ)) (precision :
       let within = part-within precision old.size (old.size / 2 ^ precision) e.left e.weight (unit-within old.size precision) e.within in
       (omega (arith, part.0), omega (arith, part.1, within))
 
+  -- the same of several symbols
   pub lies-run : (words : List ℕ) → All (λ w. w < 2 ^ 32) words → (symbols : List Symbol) (s last : Span)
       → InTurn (λ s. IsNarrowed (entry s) precision) symbols s last → LiesIn last words → LiesIn s words
   lies-run words fit [] s last same lies = subst (λ (x : Span). LiesIn x words) (sym same) lies
   lies-run words fit (x ∷ xs) s last e lies = lies-back x s e.0 words fit e.1 (lies-run words fit xs e.0 last e.2 lies)
 
   module _ (positive : 0 < precision) where
+    -- a symbol leaves less than the whole
     pub leaves-whole : (symbol : Symbol) (old new : Span) → IsNarrowed (entry symbol) precision old new → old.size < 2 ^ 64
         → new.size < 2 ^ 64 - 1
     leaves-whole symbol s new e bound = go e.next

@@ -31,6 +31,7 @@ module _ {Symbol : Type 0} (entry : Symbol → Option (ℕ × ℕ)) (precision :
       let same : p.0 ≡ q.0 = run-once ss p.0 q.0 last a-rest b-rest p.2 q.2 in
       encode-once entry precision fits s a b q.0 ha hb (subst (λ (c : Content). IsEncoded (entry s) precision a c) same p.1) q.1
 
+  -- symbols have one stack
   pub words-of-symbols-once : (symbols : List Symbol) (words others : List ℕ) → IsStackOf entry precision symbols words
       → IsStackOf entry precision symbols others → words ≡ others
   words-of-symbols-once symbols words others p q =

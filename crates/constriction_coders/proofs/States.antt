@@ -9,6 +9,7 @@ use Rattle.constriction_coders.specs.States.{put, taken}
 pub one_shifted : (precision : ℕ) → precision ≤ 32 → (1 * 2 ^ precision) % 2 ^ 64 ≡ 2 ^ precision
 one_shifted precision h = one_shl precision 64 (omega arith)
 
+-- a quantile fits a word
 pub mod_fits : (n precision : ℕ) → precision ≤ 32 → n % 2 ^ precision < 2 ^ 32
 mod_fits n precision h = omega (arith, mod_below n (2 ^ precision) (pow_pos precision), pow_mono {i = precision} {j = 32} h)
 
@@ -16,6 +17,7 @@ mod_fits n precision h = omega (arith, mod_below n (2 ^ precision) (pow_pos prec
 pub full_is : (s w k : ℕ) → w ≤ s / 2 ^ k → w * 2 ^ k ≤ s
 full_is s w k h = omega (arith, mul-le w (2 ^ k) (s / 2 ^ k) (2 ^ k) h (omega arith), div-add-mod' s (2 ^ k))
 
+-- the same the other way round
 pub not_full_is : (s w k : ℕ) → w * 2 ^ k ≤ s → w ≤ s / 2 ^ k
 not_full_is s w k h = le-div w s (2 ^ k) (pow_pos k) h
 
@@ -60,6 +62,7 @@ module _ (precision left weight state : ℕ) (some : 0 < weight) (within : left 
       mul-add-lt (state / weight) (2 ^ precision) (left + state % weight) (2 ^ (64 - precision)) quotient place,
     )
 
+    -- the shift of a state that has room loses no bits
     pub shifted : (state / weight * 2 ^ precision) % 2 ^ 64 ≡ state / weight * 2 ^ precision
     shifted = shl_whole (state / weight) (64 - precision) precision 64 quotient (omega arith)
 
@@ -88,6 +91,7 @@ room_after precision weight state fits some below =
     let wide : 2 ^ 32 ≤ 2 ^ (64 - precision) = pow_mono {i = 32} {j = 64 - precision} (omega arith) in
     omega (arith, wide, mul-le 1 (2 ^ (64 - precision)) weight (2 ^ (64 - precision)) some (omega arith))
 
+-- a state that a word has left is at least 2 ^ 32 once a symbol is put on it
 pub least_after : (precision left weight state : ℕ) → precision ≤ 32 → 0 < weight → weight * 2 ^ (64 - precision) ≤ state
     → 2 ^ 32 ≤ put precision left weight (state / 2 ^ 32)
 least_after precision left weight state fits some full =

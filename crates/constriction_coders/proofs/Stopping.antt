@@ -23,6 +23,7 @@ module _ {Symbol : Type 0} (symbols : List Symbol) (i : ℕ) (symbol : Symbol) (
       subst (λ (ys : List Symbol). InTurn Step ys full rest)
       (sym (drop_more symbols i symbol less ∙ ap (λ x. x ∷ drop (i + 1) symbols) (sym is))) (mid, step, led)
 
+  -- symbols are those before an index, the one there, and those after it
   pub split-at-symbol : symbols ≡ take i symbols ++ symbol ∷ drop (suc i) symbols
   split-at-symbol = split_at symbols i symbol less ∙ ap (λ x. take i symbols ++ x ∷ drop (suc i) symbols) (sym is)
 

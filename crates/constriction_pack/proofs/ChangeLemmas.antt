@@ -23,6 +23,7 @@ pub data Place (front other xs ys before after : List ℕ) (x y : ℕ) : Type 0 
   beyond : (rest : List ℕ) → front ≡ other → before ≡ front ++ rest → xs ≡ rest ++ x ∷ after
       → ys ≡ rest ++ y ∷ after → Place front other xs ys before after x y
 
+-- lists that differ at one place differ in their fronts or behind them
 pub place_of : (front other xs ys before after : List ℕ) (x y : ℕ) → length front ≡ length other
     → front ++ xs ≡ before ++ x ∷ after → other ++ ys ≡ before ++ y ∷ after
     → Place front other xs ys before after x y

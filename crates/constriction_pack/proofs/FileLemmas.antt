@@ -86,6 +86,7 @@ pub none_written : (d : Option (List ℕ)) (before : ℕ) → (written : List �
     × ((bytes : List ℕ) → ¬ (AreFrames (Some before) bytes written))
 none_written d before = ([], Appends-nil d, nothing_framed before)
 
+-- a frame that was written in part is no frame
 pub part_written : (d d' : Option (List ℕ)) (before tag : ℕ) (content : List ℕ)
     → (written lost : List ℕ) × Appends d d' written
     × (written ++ lost ≡ frame_of before tag content) × (0 < length lost)
@@ -101,6 +102,7 @@ signature_cut written lost bytes e some file =
     let none = behind bytes written lost [] file (e ∙ sym (append-nil signature)) in
     omega (arith, some, ap length none, length-append file.frames lost)
 
+-- a signature that was written in part begins no packed file
 pub signature_written : (c d : Option (List ℕ)) → (written lost : List ℕ) × Appends c d written
     × (written ++ lost ≡ signature) × (0 < length lost)
     → (written : List ℕ) × Appends c d written × ((bytes : List ℕ) → ¬ (IsPacked bytes written))

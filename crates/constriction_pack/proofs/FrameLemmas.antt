@@ -51,6 +51,7 @@ number_small Weighted = lit< tt
 number_small FewContexts = lit< tt
 number_small ManyContexts = lit< tt
 
+-- a tag has one kind, and says whether its frame is the last one
 pub tag_once : (k j : Kind) (p q : Bool) → tag_of k p ≡ tag_of j q → (k ≡ j) × (p ≡ q)
 tag_once k j true true e = (kind_once k j (omega (arith, e)), refl)
 tag_once k j false false e = (kind_once k j (omega (arith, e)), refl)
@@ -68,6 +69,7 @@ header_once t s n m xs ys e =
 
 -- ---- frames
 
+-- a frame has 13 bytes more than its content
 pub length_frame_of : (before tag : ℕ) (content : List ℕ)
     → length (frame_of before tag content) ≡ length content + 13
 unfolding frame_of
@@ -254,6 +256,7 @@ frame_is before tag content header check head sum =
     ∙ ap (λ xs. front ++ (content ++ xs)) (sym sum)
     ∙ ap (λ xs. xs ++ (content ++ check)) (sym head)
 
+-- the hash of a frame is that of its header and then its content
 pub hash_is : (before tag : ℕ) (content header : List ℕ) → header ≡ header_of tag (length content)
     → hash_after (hash_after before header) content ≡ hash_after_frame before tag content
 unfolding hash_after_frame

@@ -16,12 +16,14 @@ prime = 1099511628211
 abbrev inverse : ℕ
 inverse = 14886173955864302971
 
+-- the exclusive or with the same number on the left tells numbers apart
 pub xor_left : (a b c : ℕ) → bit_xor a b ≡ bit_xor a c → b ≡ c
 xor_left a b c e =
     sym (xor_zero_l b) ∙ ap (λ z. bit_xor z b) (sym (xor_self a)) ∙ xor_assoc a a b
     ∙ ap (bit_xor a) e
     ∙ sym (xor_assoc a a c) ∙ ap (λ z. bit_xor z c) (xor_self a) ∙ xor_zero_l c
 
+-- so does that with the same number on the right
 pub xor_right : (a b c : ℕ) → bit_xor a c ≡ bit_xor b c → a ≡ b
 xor_right a b c e = xor_left c a b (xor_comm c a ∙ e ∙ xor_comm b c)
 
@@ -58,6 +60,7 @@ byte_once h x y after p q e =
     let rests : x % 2 ^ 64 ≡ y % 2 ^ 64 = xor_left (h % 2 ^ 64) (x % 2 ^ 64) (y % 2 ^ 64) same in
     omega (arith, rests, p, q)
 
+-- the hash of two lists is that of the second one after the first
 pub hash_after-append : (h : ℕ) (xs ys : List ℕ)
     → hash_after h (xs ++ ys) ≡ hash_after (hash_after h xs) ys
 hash_after-append h [] ys = refl
@@ -67,6 +70,7 @@ hash_below : (bytes : List ℕ) (h : ℕ) → h < 2 ^ 64 → hash_after h bytes 
 hash_below [] h p = p
 hash_below (b ∷ bytes) h p = hash_below bytes _ (below (bit_xor h b * prime))
 
+-- the hash of at least one byte has at most 64 bits
 pub hash_of_more : (h byte : ℕ) (bytes : List ℕ) → hash_after h (byte ∷ bytes) < 2 ^ 64
 hash_of_more h byte bytes = hash_below bytes _ (below (bit_xor h byte * prime))
 

@@ -195,6 +195,7 @@ wrapped n last w is range = elim (cases_lt (last + 1) n) [
 pub one_is : (n : ℕ) → n + 1 ≡ 2 ^ 1 → n ≡ 1
 one_is n e = omega arith
 
+-- a word has at least one bit
 pub one_fits : (bits precision : ℕ) → IsPrecision bits precision → 1 ≤ bits
 one_fits bits precision p = omega (arith, p.positive, p.fits)
 
@@ -202,9 +203,11 @@ one_fits bits precision p = omega (arith, p.positive, p.fits)
 pub room_below : (left room all bits : ℕ) → left + room + 1 ≡ all → all ≤ bits → room < bits
 room_below left room all bits is narrow = omega arith
 
+-- a row that leaves room ends within the words
 pub end_below : (left weight room all bits : ℕ) → left + room + 1 ≡ all → all ≤ bits → weight ≤ room → left + weight < bits
 end_below left weight room all bits is narrow less = omega arith
 
+-- before the first weight a cdf is begun
 pub begun-none : {S W : Type 0} (steps : S → Option W → S → Type 0) (it : S) (whole : W → ℕ) (bits precision : ℕ) (cdf : List W)
     (left : W) (room : ℕ) → cdf ≡ [] → whole left ≡ 0 → room + 1 ≡ 2 ^ precision
     → IsCdfBegun steps it whole bits precision [] cdf it left room
@@ -236,6 +239,7 @@ module _ {S W : Type 0} {steps : S → Option W → S → Type 0} {it : S} {whol
   given-accepted infer w fills = good-given whole bits precision (weights ++ w ∷ []) (cdf ++ left ∷ [])
       (filled-more whole bits precision weights cdf left w None t.filled (row-last whole bits precision left w room infer t.rest fills))
 
+  -- a last weight that is given ends the cdf
   pub begun-given : (infer : Bool) (s' s'' : S) (w : W) → steps s (Some w) s'
       → FillsAll bits (whole w) room infer × steps s' None s'' → (Taken : List W → Type 0) → Taken (cdf ++ left ∷ [])
       → AreLeftsOf steps it whole bits precision infer Taken
@@ -247,6 +251,7 @@ module _ {S W : Type 0} {steps : S → Option W → S → Type 0} {it : S} {whol
         rw given (good.0, cdf ++ left ∷ [], good.1, taken),
       )
 
+  -- a last weight that does not fill the whole, or a later one, makes no cdf
   pub begun-bad_given : (infer : Bool) (s' s'' : S) (w : W) → steps s (Some w) s'
       → IsNoLast (whole w) room infer ⊎ ((room < whole w) × (more : W) × steps s' (Some more) s'')
       → IsNoCdf steps it whole bits precision infer
@@ -276,6 +281,7 @@ module _ {S W : Type 0} {steps : S → Option W → S → Type 0} {it : S} {whol
       × (map whole (cdf ++ left ∷ []) ≡ lefts_from 0 (completed precision true (map whole weights)))
   inferred-accepted narrow = good-inferred whole bits precision weights cdf left t.filled (omega (arith, t.rest, narrow))
 
+  -- a last weight that is inferred ends the cdf
   pub begun-inferred : (infer : Bool) (s' : S) → steps s None s' → (infer ≡ true) × (room + 1 < 2 ^ bits)
       → (Taken : List W → Type 0) → Taken (cdf ++ left ∷ []) → AreLeftsOf steps it whole bits precision infer Taken
   begun-inferred infer s' none word Taken taken =
@@ -283,6 +289,7 @@ module _ {S W : Type 0} {steps : S → Option W → S → Type 0} {it : S} {whol
       let good = inferred-accepted word.1 in
       (weights, (s', (s, t.given, none)), rw inferred (good.0, cdf ++ left ∷ [], good.1, taken))
 
+  -- where no last weight can be inferred there is no cdf
   pub begun-bad_inferred : (infer : Bool) (s' : S) → steps s None s' → IsNoneInferred bits room infer
       → IsNoCdf steps it whole bits precision infer
   begun-bad_inferred infer s' none why = inl (

@@ -21,6 +21,7 @@ module _ (bits precision : ℕ) where
   abbrev is_weight : ℕ → Bool
   is_weight weight = nat_lt 0 weight && nat_lt weight (2 ^ bits)
 
+  -- weights that the sum finds accepted are accepted
   pub are_accepted-to : (weights : List ℕ) → are_accepted bits precision weights ≡ true → IsAccepted bits precision weights
   are_accepted-to weights e =
       let parts = and_parts (list_all is_weight weights) (eqb (sum weights) (2 ^ precision)) e in
@@ -36,6 +37,7 @@ module _ (bits precision : ℕ) where
         fit = λ k d h. ltb-true (get_or weights k d) (2 ^ bits) (at k d h).1;
       }
 
+  -- the sum finds accepted weights accepted
   pub are_accepted-from : (weights : List ℕ) → IsAccepted bits precision weights → are_accepted bits precision weights ≡ true
   are_accepted-from weights h =
       and_from (list_all is_weight weights) (eqb (sum weights) (2 ^ precision))

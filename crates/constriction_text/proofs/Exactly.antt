@@ -246,12 +246,14 @@ words_spelled (key ∷ word ∷ words) request e =
       ap (λ k. join_with_byte 32 (k ∷ word ∷ words)) parts.0 ∙ ap (λ f. join_with_byte 32 (keyword request ∷ f ∷ words)) same,
     )))
 
+-- a line spells the request that is read from it
 pub line_spelled : (line : List ℕ) (request : Request) → read_line line ≡ Some request → Spells line request
 unfolding read_line
 line_spelled line request e =
     let P : List ℕ → Type 0 = λ l. Spells l request in
     subst P (join_with_byte-slice_split 32 line) (words_spelled (slice_split (λ b. eqb b 32) line) request e)
 
+-- the request that a line spells is read from it
 pub line_read : (line : List ℕ) (request : Request) → Spells line request → read_line line ≡ Some request
 unfolding read_line
 line_read line request spelled =
@@ -274,6 +276,7 @@ line_found line (Ok None) h = tt
 line_found line (Ok (Some command)) h = line_spelled line (view command) (sym h)
 line_found line (Err e) h = tt
 
+-- if nothing is read from a line, it spells no request
 pub line_none : {E : Type 0} (line : List ℕ) (r : Result (Option Command) E)
     → IfOk r (λ found. option_map view found ≡ read_line line)
     → IfOk r (λ found. IfNone found ((request : Request) → ¬ (Spells line request)))

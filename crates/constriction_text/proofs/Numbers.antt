@@ -16,6 +16,7 @@ value_grows : (n : ℕ) (ds : List ℕ) → n ≤ digits_value_after 10 n ds
 value_grows n [] = omega arith
 value_grows n (d ∷ ds) = omega (arith, value_grows (n * 10 + digit_value d) ds)
 
+-- the number that a word spells is at least the one that its first digits spell
 pub value_grows_by : (n i : ℕ) (word : List ℕ) → i < length word
     → n * 10 + digit_value (get_or word i 0) ≤ digits_value_after 10 n (drop i word)
 value_grows_by n i [] h = absurd (omega arith)
@@ -27,6 +28,7 @@ pub read_number-large : (word : List ℕ) → 2 ^ 64 ≤ digits_value 10 word �
 unfolding read_number
 read_number-large word h = rw (le-ltb (digits_value 10 word) (2 ^ 64) h)
 
+-- a word of 1 to 20 digits below 2 ^ 64 spells a number
 pub read_number-some : (word : List ℕ) → all_ascii_digits word ≡ true → 0 < length word → length word ≤ 20
     → digits_value 10 word < 2 ^ 64 → read_number word ≡ Some (digits_value 10 word)
 unfolding read_number
@@ -36,6 +38,7 @@ read_number-some word digits some few small = grind arith
 abbrev pub after : List ℕ → Option (List ℕ) → Option (List ℕ)
 after front read = read >>= λ numbers. Some (front ++ numbers)
 
+-- numbers that follow none are all numbers
 pub after_nothing : (read : Option (List ℕ)) → after [] read ≡ read
 after_nothing None = refl
 after_nothing (Some numbers) = refl

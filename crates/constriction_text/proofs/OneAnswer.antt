@@ -73,6 +73,7 @@ pub answer_found : (line : List ℕ) (request : Request) → Spells line request
 unfolding answer_to
 answer_found line request spelled = sym (ap reply_to (line_read line request spelled))
 
+-- a line that spells no request is a bad line
 pub answer_none : (line : List ℕ) → ((request : Request) → ¬ (Spells line request)) → codes "bad line\n" ≡ answer_to line
 unfolding answer_to
 answer_none line none = none_asked (read_line line) refl
@@ -81,6 +82,7 @@ answer_none line none = none_asked (read_line line) refl
     none_asked (Some request) e = absurd (none request (line_spelled line request e))
     none_asked None e = refl
 
+-- a line has the answer that is computed
 pub is_answer : (line : List ℕ) → IsAnswer line (answer_to line)
 unfolding answer_to
 is_answer line = is_reply line (read_line line) refl
@@ -90,6 +92,7 @@ pub is_answer_alone : (line before text : List ℕ) → before ≡ [] → text �
 is_answer_alone line before text none added =
     subst (IsAnswer line) (sym (added ∙ ap (λ b. b ++ answer_to line) none)) (is_answer line)
 
+-- it has no other
 pub one_answer : (line one other : List ℕ) → IsAnswer line one → IsAnswer line other → one ≡ other
 one_answer line one other first second =
     elim first [
@@ -107,6 +110,7 @@ one_answer line one other first second =
 
 -- ---- the answers to lines
 
+-- lines have the answers that are computed
 pub are_answers : (lines : List (List ℕ)) → AreAnswers lines (answers_of lines)
 are_answers [] = ([], tt, refl)
 are_answers (line ∷ lines) =
@@ -123,5 +127,6 @@ each_answer (line ∷ lines) (text ∷ texts) (again ∷ others) first second =
     ap (λ t. t ∷ texts) (one_answer line text again first.0 second.0)
     ∙ ap (λ ts. again ∷ ts) (each_answer lines texts others first.1 second.1)
 
+-- they have no others
 pub one_text : (lines : List (List ℕ)) (one other : List ℕ) → AreAnswers lines one → AreAnswers lines other → one ≡ other
 one_text lines one other first second = first.2 ∙ ap concat (each_answer lines first.0 second.0 first.1 second.1) ∙ sym second.2

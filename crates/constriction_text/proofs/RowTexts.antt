@@ -21,6 +21,7 @@ same_row rows q q' s l l' w w' is same left weight = rw (left, weight, ← same)
 
 -- ---- quantiles in range
 
+-- a number without whole parts of 2 ^ precision is below it
 pub is_below : (precision q : ℕ) → q / 2 ^ precision ≡ 0 → q < 2 ^ precision
 is_below precision q e =
     let below = (div-lt_iff_lt-mul {k = 2 ^ precision} {x = q} {y = 1} (pow_pos precision)).0 (omega (arith, e)) in

@@ -30,6 +30,7 @@ pub record Answered (old new : Option (List ℕ)) (input rest text : List ℕ) :
   pub answers : written ++ text ≡ answers_of first
   pub wrote : Appends old new written
 
+-- no lines are answered by no text
 pub answered-none : (a : Option (List ℕ)) (input text : List ℕ) → text ≡ [] → Answered a a input input text
 answered-none a input text none = record { first = []; lines = refl; written = []; answers = none; wrote = Appends-nil a }
 

@@ -9,6 +9,7 @@ use Rattle.constriction_model.specs.Model.{LiesWithin}
 use Rattle.constriction_model.specs.Rows.{RowsTile}
 use Rattle.constriction_adaptive.specs.Bit.{bit_rows}
 
+-- the rows of a bit tile
 pub bit-tile : (weight : ℕ) → 0 < weight → weight < 65536 → RowsTile 32 16 (bit_rows weight)
 bit-tile weight some below = record {
   accepted = record {
@@ -31,9 +32,11 @@ bit-tile weight some below = record {
     total : sum (weight ∷ (65536 - weight) ∷ []) ≡ 2 ^ 16
     total = omega (arith, below, sum_by-cons (λ x. x) weight ((65536 - weight) ∷ []), sum_by-cons (λ x. x) (65536 - weight) [])
 
+-- each of them has quantiles, all below 2 ^ 16
 pub bit-within : (weight : ℕ) → 0 < weight → weight < 65536 → All (LiesWithin 16) (bit_rows weight)
 bit-within weight some below = rows-within 32 16 (bit_rows weight) (bit-tile weight some below)
 
+-- a bit that stands for an equal one is that bit
 pub same-bit : (a b : Bool) → StandsForEqual (λ s t. t ≡ s) beq a b → b ≡ a
 same-bit a b e = e.2 ∙ go e.0 a e.1
   where

@@ -4,6 +4,7 @@ use Rattle.std.proofs.Common.{sym, ◌∙◌}
 use Rattle.constriction_backends.specs.Source.{ReadsUpcoming}
 use Rattle.constriction_coders.specs.EncodedWords.{TakesFirst}
 
+-- what takes the first of its words reads its upcoming words
 pub TakesFirst-upcoming : {S E : Type 0} (upcoming : S → List ℕ) (s : S) (r : Result (Option ℕ) E) (t : S)
     → TakesFirst (upcoming s) r (upcoming t) → (words : List ℕ) → words ≡ upcoming s
     → ReadsUpcoming (λ u ws. ws ≡ upcoming u) words r t

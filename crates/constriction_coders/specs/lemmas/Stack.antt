@@ -20,6 +20,7 @@ use Rattle.constriction_coders.specs.StackMessages.{IsStackOf}
 use Rattle.constriction_coders.specs.States.{taken}
 use Rattle.constriction_coders.specs.Steps.{Content, content, Refills, IsEncoded}
 
+-- contents of the same state and words are the same
 pub same-content : (a b : Content) → a.state ≡ b.state → a.words ≡ b.words → a ≡ b
 same-content a b s w = ap (λ n. content n a.words) s ∙ ap (λ ws. content b.state ws) w
 

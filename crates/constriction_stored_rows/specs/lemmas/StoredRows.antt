@@ -16,9 +16,11 @@ module _ (bits precision : ℕ) (lefts : List ℕ) (t : IsStored bits precision 
   abbrev pub symbols : List ℕ
   symbols = indices (length (weights_of precision lefts))
 
+  -- as many symbols as left cumulatives
   pub symbols-long : length symbols ≡ length lefts
   symbols-long = length-range_with_len 0 (length (weights_of precision lefts)) ∙ length-gaps (2 ^ precision) lefts
 
+  -- the symbol at an index is the index
   pub symbol-at : (i d : ℕ) → i < length lefts → get_or symbols i d ≡ i
   symbol-at i d h =
       let here : i < length (weights_of precision lefts) = omega (arith, length-gaps (2 ^ precision) lefts) in
@@ -33,6 +35,7 @@ module _ (bits precision : ℕ) (lefts : List ℕ) (t : IsStored bits precision 
       ∙ ap (λ s. record { symbol = s; left = get_or lefts i 0; weight = get_or (weights_of precision lefts) i 0 })
       (symbol-at i d.symbol h)
 
+  -- each row has quantiles, all below 2 ^ precision
   pub stored-within : All (λ r. (0 < r.weight) × (r.left + r.weight ≤ 2 ^ precision)) (contiguous_rows (weights_of precision lefts))
   stored-within = λ i d h.
       let here : i < length lefts = omega (arith, length-rows (weights_of precision lefts), length-gaps (2 ^ precision) lefts) in
@@ -40,6 +43,7 @@ module _ (bits precision : ℕ) (lefts : List ℕ) (t : IsStored bits precision 
       subst (λ (r : Row ℕ). (0 < r.weight) × (r.left + r.weight ≤ 2 ^ precision)) (sym (stored-at i d here))
       (row.positive, row.within)
 
+  -- the rows tile
   pub stored-tiles : RowsTile bits precision (contiguous_rows (weights_of precision lefts))
   stored-tiles = symbol-rows_tile bits precision symbols lefts t symbols-long
 
@@ -54,6 +58,7 @@ module _ (bits precision : ℕ) (lefts : List ℕ) (t : IsStored bits precision 
       sym (ap (entry_of nat_eq (contiguous_rows ws)) (sym e) ∙ contiguous-at 0 0 ws i here
       ∙ ap (λ n. Some (n, get_or ws i 0)) left ∙ ap (λ n. Some (l, n)) (sym we))
 
+  -- an index past the rows has no entry
   pub stored-no_entry : (i : ℕ) → length lefts ≤ i → None ≡ entry_of nat_eq (contiguous_rows (weights_of precision lefts)) i
   stored-no_entry i h =
       let ws : List ℕ = weights_of precision lefts in
