@@ -1,6 +1,6 @@
 //! Bits of bytes, by a hash of the bytes before.
 
-ghost use Rattle.std.specs.Prelude.{◌≡◌, ◌+◌, ◌*◌, ◌<◌, ◌≤◌, ◌^◌, ◌/◌, ◌%◌, IfOk, length, slice_index};
+ghost use Rattle.std.specs.Prelude.{◌≡◌, ◌<◌, ◌≤◌, ◌^◌, IfOk, length, slice_index};
 ghost use Rattle.constriction_adaptive.specs.Bit.{at_least_one, bit_rows};
 ghost use Rattle.constriction_adaptive.specs.lemmas.Bit.{next-same};
 ghost use Rattle.constriction_adaptive.specs.Contexts.{Contexts, contexts_after, hashed_slot, rows_in, untouched};

@@ -1,6 +1,6 @@
 //! The numbers of logistic mixing.
 
-ghost use Rattle.std.specs.Prelude.{◌≡◌, ◌+◌, ◌-◌, ◌*◌, ◌/◌, ◌%◌, ◌<◌, ◌≤◌, ◌^◌};
+ghost use Rattle.std.specs.Prelude.{◌≡◌, ◌<◌, ◌≤◌};
 ghost use Rattle.constriction_adaptive.specs.Mixing.{error_of, logarithm, slot_after, spread, squash, tail, weight_after};
 
 /// 128 times the logarithm of base 2.

@@ -1,6 +1,6 @@
 //! The bytes before a bit, and the byte that they foretell.
 
-ghost use Rattle.std.specs.Prelude.{◌≡◌, ◌+◌, ◌*◌, ◌<◌, ◌≤◌, ◌^◌, IfOk, false, length};
+ghost use Rattle.std.specs.Prelude.{◌≡◌, ◌<◌, ◌≤◌, ◌^◌, IfOk, false, length};
 ghost use Rattle.constriction_adaptive.specs.Past.{
   PastState,
   followed,

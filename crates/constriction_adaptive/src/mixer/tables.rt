@@ -1,6 +1,6 @@
 //! Strengths and the weights that they speak for, looked up.
 
-ghost use Rattle.std.specs.Prelude.{◌≡◌, ◌+◌, ◌-◌, ◌*◌, ◌/◌, ◌<◌, ◌≤◌, ℕ, length, slice_index};
+ghost use Rattle.std.specs.Prelude.{◌≡◌, ◌+◌, ◌-◌, ◌*◌, ◌<◌, ℕ, length, slice_index};
 ghost use Rattle.constriction_adaptive.specs.Mixing.{logarithm, squash, strength};
 
 use crate::mixer::numbers::{logarithm_of, squash_of};

@@ -1,6 +1,6 @@
 //! The entries of symbols that are predicted, which are encoded later.
 
-ghost use Rattle.std.specs.Prelude.{◌≡◌, ◌+◌, ◌^◌, ◌<◌, ◌≤◌, IfOk, IfErr, IfSome, OnErr, Some, None, fold};
+ghost use Rattle.std.specs.Prelude.{◌≡◌, IfOk, IfErr, IfSome, OnErr, None, fold};
 ghost use Rattle.std.specs.List.{AllZip};
 ghost use Rattle.constriction_model.specs.Rows.{entry_of};
 ghost use Rattle.constriction_coders.specs.Places.{placed, entry_at};

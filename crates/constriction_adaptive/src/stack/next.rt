@@ -2,7 +2,6 @@
 
 ghost use Rattle.std.specs.Prelude.{◌≡◌, Err, OnErr, IfOk};
 ghost use Rattle.constriction_coders.specs.AnsCoder.{held_by};
-ghost use Rattle.constriction_coders.specs.Steps.{backend_result, ReadsAtMostOne};
 ghost use Rattle.constriction_adaptive.specs.Predicted.{IsTakenIn};
 
 use crate::predictor::Predictor;

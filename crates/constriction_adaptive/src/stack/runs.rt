@@ -7,7 +7,6 @@ ghost use Rattle.constriction_model.specs.Coding.{StandsForEqual};
 ghost use Rattle.constriction_coders.specs.AnsCoder.{held_by};
 ghost use Rattle.constriction_coders.specs.Laws.{StackComesBack};
 ghost use Rattle.constriction_coders.specs.Places.{placed, entry_at};
-ghost use Rattle.constriction_coders.specs.Steps.{IsEncoded};
 ghost use Rattle.constriction_adaptive.specs.Predicted.{entry_in, AreCoded, AreStacked, DecodingStops, IsTakenIn, StackingStops};
 
 use crate::error::EncoderFrontendError;
