@@ -125,12 +125,6 @@ module _ (precision : ℕ) (cdf lent : List ℕ) (e : lent ≡ cdf) (t : IsCdf 3
   words-same : map (λ x. x) lent ≡ cdf
   words-same = map-id lent ∙ e
 
-  pub lent-some : 1 < length lent
-  lent-some = let some = (cdf-some precision cdf t).0 in omega (arith, some, ap length e)
-
-  pub lent-words : IsCdf 32 precision (map (λ x. x) lent)
-  lent-words = subst (λ xs. IsCdf 32 precision xs) (sym words-same) t
-
   -- the words that are lent give the entry of a symbol
   pub lent-entry : (i l w : ℕ) → i < length lent - 1 → l ≡ get_or (lefts_in (map (λ x. x) lent)) i 0
       → w ≡ get_or (weights_of precision (lefts_in (map (λ x. x) lent))) i 0

@@ -37,14 +37,6 @@ module _ (precision left weight state : ℕ) (some : 0 < weight) (within : left 
       div-mul-add (state / weight) (2 ^ precision) (left + state % weight) place in
       rw (put_quantile, above) (omega (arith, div-add-mod state weight))
 
-  -- a symbol on top does not make the state less
-  pub put_least : state ≤ put precision left weight state
-  put_least = omega (
-    arith,
-    div-add-mod' state weight,
-    mul-le (state / weight) weight (state / weight) (2 ^ precision) (omega arith) (omega arith),
-  )
-
   module _ (fits : precision ≤ 32) (room : state < weight * 2 ^ (64 - precision)) where
     whole : 2 ^ (64 - precision) * 2 ^ precision ≡ 2 ^ 64
     whole =
