@@ -9,6 +9,7 @@ ghost use Rattle.constriction.specs.Coding.{InTurn, StandsForEqual};
 ghost use Rattle.constriction_coders.specs.AnsCoder.{held_by};
 ghost use Rattle.constriction_coders.specs.Steps.{IsDecoded, IsEncoded};
 
+mod any_coder;
 mod own_models;
 mod queue;
 mod stack;

@@ -18,6 +18,8 @@ pub struct DecoderContent<Source> {
     range: u64,
     offset: u64,
     source: Source,
+    // A caller of a function over any coder has no proof without it.
+    _order: Queue,
 }
 
 impl<Source> Model for DecoderContent<Source> {

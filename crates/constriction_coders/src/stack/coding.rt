@@ -10,13 +10,16 @@ use crate::stack::ans_coder::AnsCoder;
 use crate::stack::state::quantile_of;
 use constriction_backends::{StackSource, WordStack};
 use constriction_model::{DecoderModel, EncoderModel};
-use constriction_words::{CoderError, DefaultEncoderFrontendError};
+use constriction_words::{CoderError, DefaultEncoderFrontendError, Stack};
 use std::alloc::AllocError;
 use std::marker::Model;
 
 /// What a stack coder holds: the state, and the words under it.
 #[derive(Drop)]
-pub struct StackContent;
+pub struct StackContent {
+    // A caller of a function over any coder has no proof without it.
+    _order: Stack,
+}
 
 impl Model for StackContent {
     ghost use Rattle.std.specs.Prelude.{[], ⊤};
