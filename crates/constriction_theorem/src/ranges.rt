@@ -1,6 +1,6 @@
 //! What the dividing model of a range of symbols of equal weight replies.
 
-ghost use Rattle.std.specs.Prelude.{◌≤◌, nat_eq, IfOk, IfErr};
+ghost use Rattle.std.specs.Prelude.{◌≡◌, ◌≤◌, nat_eq, IfOk, IfErr};
 ghost use Rattle.constriction_client.specs.FormRows.{form_rows};
 ghost use Rattle.constriction_client.specs.Replies.{in_numbers, replies_by_scan};
 ghost use Rattle.constriction_theorem.specs.Answers.{DividesAsScan};
