@@ -4,11 +4,11 @@
 //! The first half begins with lists. [`answer_from_symbols_and_weights`] and
 //! [`answer_from_weights`] accept lists exactly if they tile, make the models, convert one by any
 //! steps, and ask each the same queries. The replies are those that a scan of the rows of the lists
-//! gives. [`answer_by_uniform_model`] does this for the dividing model, [`answer_by_model`] and
-//! [`answer_by_symbol_table`] for any model that can be walked through, and [`answer_by_form`] for
-//! a decoder that exists already. These functions may make lookup tables, so their `PRECISION` is
-//! at most 63. [`answer_from_weights_by_search`] and [`answer_beside_encoder`] make none, and take
-//! any `PRECISION`. The second half is [`run_cursor_and_reversal`].
+//! gives. [`answer_from_range_u8`] and its like do this for the dividing model, [`answer_by_model`]
+//! and [`answer_by_symbol_table`] for any model that can be walked through, and [`answer_by_form`]
+//! for a decoder that exists already. These functions may make lookup tables, so their `PRECISION`
+//! is at most 63. [`answer_from_weights_by_search`] and [`answer_beside_encoder`] make none, and
+//! take any `PRECISION`. The second half is [`run_cursor_and_reversal`].
 //!
 //! Replies alone do not show which model gave them. So each function that converts a form also
 //! answers the form that the steps left, and its clauses say which kind and which rows that form
@@ -27,7 +27,10 @@ pub use crate::forms::{FormAndReplies, answer_by_form};
 pub use crate::models::{
     AnswersOfModel, answer_beside_encoder, answer_by_model, answer_by_symbol_table,
 };
-pub use crate::ranges::answer_by_uniform_model;
+pub use crate::ranges::{
+    answer_from_range_u8, answer_from_range_u16, answer_from_range_u32, answer_from_range_u64,
+    answer_from_range_usize,
+};
 pub use crate::searches::{AnswersBySearch, answer_from_weights_by_search};
 pub use crate::symbols::answer_from_symbols_and_weights;
 pub use crate::weights::{AnswersOfWeights, RepliesByEncoder, answer_from_weights};
