@@ -32,7 +32,7 @@ class Reading:
             self.types_in(fields_of(it), it)
         else:
             self.clauses(it, it.lines)
-            for block in self.all.impls if it.owner.kind == "trait" else ():
+            for block in self.all.impls if it.owner.kind == "trait" and not it.is_law else ():
                 trait, kind = block.trait
                 if trait == it.owner.name and (trait == "Probe" or kind in PLAIN):
                     self.members_of(block, [it.name])
@@ -117,6 +117,8 @@ class Reading:
                 self.item(each)
         elif it.kind == "fn":
             self.types_in(it.signature, it)
+            for law in (each for trait in self.bounds(it) for each in trait.members if each.is_law):
+                self.read(law)
             for _, _, lines in it.clauses:
                 self.clauses(it, lines)
             if not it.clauses and it.owner and (trait := self.all.traits.get(it.owner.trait[0])):
