@@ -16,12 +16,11 @@ ghost use Rattle.constriction_categorical.specs.Cdf.{IsCdfOfWeights};
 use crate::iterable::IterableEntropyModel;
 use crate::symbol_table::ContiguousSymbolTable;
 use constriction_buffers::SafeBuf;
-use constriction_model::{
-    DecoderModel, EncoderModel, EntropyModel, ModelError, Probe, Weight, row_in_probe,
-};
+use constriction_model::{DecoderModel, EncoderModel, EntropyModel, ModelError, Probe, Weight};
 use constriction_numbers::WholeNumber;
 use constriction_stored_rows::{
-    CdfProbe, Cumulative, cdf_of, cdf_row_at, contiguous_row_at, copy_of, is_cdf, refill_cdf,
+    CdfProbe, Cumulative, cdf_of, contiguous_entry_of, contiguous_row_of_quantile, copy_of, is_cdf,
+    refill_cdf,
 };
 use std::alloc::{AllocError, Global};
 use std::marker::PhantomData;
@@ -260,12 +259,7 @@ impl<Probability: WholeNumber, Cdf: SafeBuf<Probability>, const PRECISION: usize
         &self,
         symbol: &usize,
     ) -> Option<(Probability, Weight<Probability>)> {
-        let cdf = self.cdf.words();
-        if *symbol < cdf.len() - 1 {
-            Some(cdf_row_at::<Probability, PRECISION>(cdf, *symbol))
-        } else {
-            None
-        }
+        contiguous_entry_of::<Probability, PRECISION>(self.cdf.words(), *symbol)
     }
 
     ghost equality_law = { nat_eq_equiv };
@@ -293,10 +287,7 @@ impl<Probability: WholeNumber, Cdf: SafeBuf<Probability>, const PRECISION: usize
             (contiguous_model_rows self.now) (Probability.whole quantile)) }
         ensures known { IfOk result (λ x. x.0 < length (contiguous_model_rows self.now)) }
     {
-        let cdf = self.cdf.words();
-        let (_, rows) = self.quantile_probe(quantile);
-        let index = row_in_probe::<_, 2>(rows, quantile);
-        Ok(contiguous_row_at::<Probability, PRECISION>(cdf, index))
+        Ok(contiguous_row_of_quantile::<Probability, PRECISION>(self.cdf.words(), quantile))
     }
 
     ghost tile_law = { λ m. stored-tiles _ _ _ m.stored.stored };

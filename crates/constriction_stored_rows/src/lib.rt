@@ -30,5 +30,7 @@ pub use crate::judging::is_cdf;
 pub use crate::paired::{entries_cloned, has_symbol};
 pub use crate::reading::{TakesRows, rows_read};
 pub use crate::slots::{row_in_slot, slot_probe, table_of_slots, words_of_table};
-pub use crate::stored::{cdf_row_at, contiguous_row_at};
+pub use crate::stored::{
+    cdf_row_at, contiguous_entry_of, contiguous_row_at, contiguous_row_of_quantile,
+};
 pub use crate::uncompared::entries_read;
