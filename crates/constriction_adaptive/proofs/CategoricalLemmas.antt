@@ -1,18 +1,14 @@
--- A cdf whose left cumulatives move, and what a model of it answers.
-use Rattle.std.specs.Prelude.{◌≡◌, ℕ, ◌+◌, ◌-◌, ◌*◌, ◌/◌, ◌%◌, ◌^◌, ◌<◌, ◌≤◌, List, [], ◌∷◌, ◌++◌, length, map, take, min, nat_eq, Some, None}
+-- A cdf whose left cumulatives move.
+use Rattle.std.specs.Prelude.{◌≡◌, ℕ, ◌+◌, ◌-◌, ◌*◌, ◌/◌, ◌%◌, ◌^◌, ◌<◌, ◌≤◌, List, [], ◌∷◌, ◌++◌, length, map, take, min}
 use Rattle.std.specs.List.{range_with_len}
 use Rattle.std.proofs.Common.{get_or, ap, sym, subst, ◌∙◌, arith, inl, inr}
 use Rattle.std.proofs.Math.Seq.{get_or-append_seam}
 use Rattle.std.proofs.lemmas.Bool.{cases_lt}
-use Rattle.std.proofs.lemmas.List.{get_or-take, length-take-le, map-id, take_all, take_more}
+use Rattle.std.proofs.lemmas.List.{get_or-take, length-take-le, take_all, take_more}
 use Rattle.std.proofs.lemmas.List.FromFn.{fill_by_all}
-use Rattle.constriction_model.specs.Probe.{IsLastAtMost}
-use Rattle.constriction_model.specs.Rows.{Row, IsRowOf, contiguous_rows, entry_of}
-use Rattle.constriction_stored_rows.specs.Stored.{IsCdf, IsStored, lefts_in, weights_of}
-use Rattle.constriction_stored_rows.specs.lemmas.Stored.{stored-row, stored-some}
-use Rattle.constriction_stored_rows.specs.lemmas.StoredRows.{stored-entry, stored-no_entry}
+use Rattle.constriction_stored_rows.specs.Stored.{IsCdf, IsStored, lefts_in}
+use Rattle.constriction_stored_rows.specs.lemmas.Stored.{stored-some}
 use Rattle.constriction_stored_rows.proofs.CdfLemmas.{all-but_last, cdf-here, cdf-long}
-use Rattle.constriction_stored_rows.proofs.TileLemmas.{cdf-probed}
 use Rattle.constriction_adaptive.specs.Categorical.{even_lefts, left_after, lefts_after}
 use Rattle.constriction_adaptive.proofs.LeftsLemmas.{even-stored, moved-each, moved-stored, stored-least, stored-most}
 
@@ -118,53 +114,3 @@ even-cdf precision symbols weight lefts cdf narrow some few word is long each e 
       },
       begin ∙ known,
     )
-
--- ---- the answers of a model of such a cdf, which is lent as words
-
-module _ (precision : ℕ) (cdf lent : List ℕ) (e : lent ≡ cdf) (t : IsCdf 32 precision cdf) where
-  words-same : map (λ x. x) lent ≡ cdf
-  words-same = map-id lent ∙ e
-
-  -- the words that are lent give the entry of a symbol
-  pub lent-entry : (i l w : ℕ) → i < length lent - 1 → l ≡ get_or (lefts_in (map (λ x. x) lent)) i 0
-      → w ≡ get_or (weights_of precision (lefts_in (map (λ x. x) lent))) i 0
-      → Some (l, w) ≡ entry_of nat_eq (contiguous_rows (weights_of precision (lefts_in cdf))) i
-  lent-entry i l w h left weight =
-      let long : length lent ≡ length cdf = ap length e in
-      stored-entry 32 precision (lefts_in cdf) t.stored i l w (omega (arith, h, long, cdf-long 32 precision cdf t))
-      (left ∙ ap (λ xs. get_or (lefts_in xs) i 0) words-same)
-      (weight ∙ ap (λ xs. get_or (weights_of precision (lefts_in xs)) i 0) words-same)
-
-  -- a symbol past the rows has none
-  pub lent-no_entry : (i : ℕ) → length lent - 1 ≤ i → None ≡ entry_of nat_eq (contiguous_rows (weights_of precision (lefts_in cdf))) i
-  lent-no_entry i h =
-      let long : length lent ≡ length cdf = ap length e in
-      stored-no_entry 32 precision (lefts_in cdf) t.stored i (omega (arith, h, long, cdf-long 32 precision cdf t))
-
-  -- each row has quantiles, all below 2 ^ precision
-  pub lent-within : (i l w : ℕ) → i < length lent - 1 → l ≡ get_or (lefts_in (map (λ x. x) lent)) i 0
-      → w ≡ get_or (weights_of precision (lefts_in (map (λ x. x) lent))) i 0 → (0 < w) × (l + w ≤ 2 ^ precision)
-  lent-within i l w h left weight =
-      let long : length lent ≡ length cdf = ap length e in
-      let row = stored-row 32 precision (lefts_in cdf) i t.stored (omega (arith, h, long, cdf-long 32 precision cdf t)) in
-      let begins : l ≡ get_or (lefts_in cdf) i 0 = left ∙ ap (λ xs. get_or (lefts_in xs) i 0) words-same in
-      let weighs : w ≡ get_or (weights_of precision (lefts_in cdf)) i 0 =
-      weight ∙ ap (λ xs. get_or (weights_of precision (lefts_in xs)) i 0) words-same in
-      (omega (arith, row.positive, weighs), omega (arith, row.within, begins, weighs))
-
-  -- the left cumulatives that are searched
-  pub lent-lefts : (cumulatives : List ℕ) → cumulatives ≡ map (λ x. x) (take (length lent - 1) lent) → cumulatives ≡ lefts_in cdf
-  lent-lefts cumulatives are = are ∙ map-id (take (length lent - 1) lent) ∙ ap (λ xs. take (length xs - 1) xs) e
-
-  -- the row that is found among the words is the row of the quantile
-  pub lent-row : (q i : ℕ) (r : Row ℕ) (cumulatives : List ℕ) → cumulatives ≡ lefts_in cdf → q < 2 ^ precision
-      → IsLastAtMost cumulatives q i
-      → get_or (contiguous_rows (weights_of precision (lefts_in (map (λ x. x) lent)))) i r ≡ r
-      → IsRowOf (contiguous_rows (weights_of precision (lefts_in cdf))) q r
-  lent-row q i r cumulatives are below found is =
-      let index : 0 + i ≡ i = omega arith in
-      let row = ((cdf-probed 32 precision cdf cumulatives t are).2 q i below found).row r in
-      let here : get_or (contiguous_rows (weights_of precision (lefts_in cdf))) (0 + i) r ≡ r =
-      ap (λ k. get_or (contiguous_rows (weights_of precision (lefts_in cdf))) k r) index
-      ∙ ap (λ xs. get_or (contiguous_rows (weights_of precision (lefts_in xs))) i r) (sym words-same) ∙ is in
-      subst (λ (x : Row ℕ). IsRowOf (contiguous_rows (weights_of precision (lefts_in cdf))) q x) here row

@@ -10,10 +10,8 @@ ghost use Rattle.constriction_adaptive.specs.Categorical.{even_lefts, lefts_afte
 ghost use Rattle.constriction_adaptive.specs.lemmas.Categorical.{after-same};
 
 use crate::predictor::Predictor;
-use constriction_model::{
-    DecoderModel, EncoderModel, EntropyModel, ModelError, Weight, row_of_quantile,
-};
-use constriction_stored_rows::{CdfProbe, Cumulative, cdf_row_at, contiguous_row_at};
+use constriction_model::{DecoderModel, EncoderModel, EntropyModel, ModelError, Weight};
+use constriction_stored_rows::{contiguous_entry_of, contiguous_row_of_quantile};
 use std::alloc::{AllocError, Global};
 
 /// Predicts the symbols `0, 1, ..` of an alphabet of any size by a cdf, which moves towards each
@@ -144,12 +142,7 @@ impl<const RATE: u32, const PRECISION: usize> EncoderModel<PRECISION>
 
     #[inline]
     fn left_cumulative_and_probability(&self, symbol: &usize) -> Option<(u32, Weight<u32>)> {
-        let cdf = self.cdf.as_slice();
-        if *symbol < cdf.len() - 1 {
-            Some(cdf_row_at::<u32, PRECISION>(cdf, *symbol))
-        } else {
-            None
-        }
+        contiguous_entry_of::<u32, PRECISION>(&self.cdf, *symbol)
     }
 
     ghost equality_law = { nat_eq_equiv };
@@ -162,10 +155,7 @@ impl<const RATE: u32, const PRECISION: usize> DecoderModel<PRECISION>
     /// The row of a quantile, by a search.
     #[inline]
     fn quantile_function(&self, quantile: u32) -> Result<(usize, u32, Weight<u32>), AllocError> {
-        let cdf = self.cdf.as_slice();
-        let mut probe = CdfProbe::<u32, Cumulative>::new(&cdf[..cdf.len() - 1]);
-        let index = row_of_quantile(&mut probe, quantile);
-        Ok(contiguous_row_at::<u32, PRECISION>(cdf, index))
+        Ok(contiguous_row_of_quantile::<u32, PRECISION>(&self.cdf, quantile))
     }
 
     ghost tile_law = { λ m. stored-tiles 32 PRECISION (lefts_in m.cdf.items) m.stored.stored };
