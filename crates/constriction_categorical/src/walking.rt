@@ -6,7 +6,7 @@ ghost use Rattle.std.specs.List.{IsDistinct};
 ghost use Rattle.constriction_categorical.specs.private.Walked.{WalkedGood, WalkedBad};
 
 use constriction_model::ModelError;
-use constriction_stored_rows::{entries_announced, has_symbol, with_item};
+use constriction_stored_rows::{entries_announced, has_symbol, push_item};
 use std::alloc::{AllocError, Global};
 
 /// The entries of the rows that a walk gives, if no two symbols are equal.
@@ -113,7 +113,7 @@ where
 {
     'rows: while let Some(row) = walk.next() {
         let (symbol, left, _weight) = row?;
-        entries = with_item(entries, (left, symbol))?;
+        push_item(&mut entries, (left, symbol))?;
     }
     Ok(entries)
 }

@@ -3,15 +3,16 @@ use Rattle.std.specs.Prelude.{◌≡◌, ℕ, ◌+◌, ◌-◌, ◌%◌, ◌^◌
 use Rattle.std.proofs.Common.{suc, zero, refl, ap, sym, ◌∙◌, arith, inl, inr}
 use Rattle.std.proofs.Math.Nat.{mod-eq_of_lt, mod_self}
 use Rattle.std.proofs.lemmas.Bool.{cases_lt}
-use Rattle.std.proofs.lemmas.List.{map-append, length-append, length_push, get_or_append_left}
+use Rattle.std.proofs.lemmas.List.{map-append, length-append, length-map, length_push, get_or_append_left}
 use Rattle.std.proofs.lemmas.List.Elements.{All-push, All-nil, All-contains, Contains-append_left, Contains-push}
 use Rattle.std.proofs.lemmas.List.Sums.{sum_by-cons, sum_by-append, sum_by_push}
-use Rattle.constriction_model.specs.Acceptance.{IsAccepted, completed}
+use Rattle.constriction_model.specs.Acceptance.{IsAccepted, completed, ToItsEnd, SoFar}
 use Rattle.constriction_model.specs.lemmas.Walks.{yields-more}
 use Rattle.constriction_model.specs.Precision.{IsPrecision}
 use Rattle.constriction_stored_rows.specs.Stored.{lefts_from, total_of}
-use Rattle.constriction_stored_rows.specs.private.Filling.{AreLeftsOf, IsCdfBegun, IsFilled, IsRowEnd}
-use Rattle.constriction_stored_rows.specs.Ends.{FillsAll, IsNoLast, IsNoneInferred, IsCdfOf, IsNoCdf}
+use Rattle.constriction_stored_rows.specs.private.Filling.{AreNotTaken, IsBegun, IsFilled, IsRowEnd}
+use Rattle.constriction_stored_rows.specs.private.Given.{GaveGood}
+use Rattle.constriction_stored_rows.specs.Ends.{FillsAll, IsNoLast, IsNoneInferred, IsCdfOf}
 
 -- one left cumulative more
 pub lefts_from-push : (l : ℕ) (ws : List ℕ) (w : ℕ) → lefts_from l (ws ++ w ∷ []) ≡ lefts_from l ws ++ (l + sum ws) ∷ []
@@ -21,30 +22,33 @@ lefts_from-push l (v ∷ ws) w =
     (lefts_from-push (l + v) ws w
     ∙ ap (λ x. lefts_from (l + v) ws ++ x ∷ []) (omega (arith, sum_by-cons (λ x. x) v ws)))
 
+-- a row that is taken after others
+pub lefts-taken : {W : Type 0} (whole : W → ℕ) (lefts more : List W) (left : W) (ws : List ℕ) (w : ℕ) → more ≡ lefts ++ left ∷ []
+    → map whole lefts ≡ lefts_from 0 ws → whole left ≡ sum ws → map whole more ≡ lefts_from 0 (ws ++ w ∷ [])
+lefts-taken whole lefts more left ws w pushed before is =
+    let sums : whole left ≡ 0 + sum ws = omega (arith, is) in
+    ap (map whole) pushed ∙ map-append whole lefts (left ∷ []) ∙ ap (λ xs. xs ++ whole left ∷ []) before
+    ∙ ap (λ n. lefts_from 0 ws ++ n ∷ []) sums ∙ sym (lefts_from-push 0 ws w)
+
 -- completed weights are at least as many as the given ones
 pub length-completed : (precision : ℕ) (infer : Bool) (ws : List ℕ) → length ws ≤ length (completed precision infer ws)
 length-completed precision false ws = omega arith
 length-completed precision true ws = omega (arith, length_push ws (2 ^ precision - sum ws))
 
 module _ {W : Type 0} (whole : W → ℕ) (bits precision : ℕ) where
-  pub filled-none : (z : W) → whole z ≡ 0 → 0 < 2 ^ precision → IsFilled whole bits precision [] [] (Some z)
+  pub filled-none : (z : W) → whole z ≡ 0 → 0 < 2 ^ precision → IsFilled whole bits precision [] (Some z)
   filled-none z e up = record {
     positive = All-nil (λ w. 0 < w);
     fit = All-nil (λ w. w < 2 ^ bits);
-    lefts = refl;
     is = e;
     below = rw e up;
   }
 
-  pub filled-more : (ws cdf : List W) (left w : W) (end : Option W) → IsFilled whole bits precision ws cdf (Some left)
-      → IsRowEnd whole bits precision left w end → IsFilled whole bits precision (ws ++ w ∷ []) (cdf ++ left ∷ []) end
-  filled-more ws cdf left w end f r = record {
+  pub filled-more : (ws : List W) (left w : W) (end : Option W) → IsFilled whole bits precision ws (Some left)
+      → IsRowEnd whole bits precision left w end → IsFilled whole bits precision (ws ++ w ∷ []) end
+  filled-more ws left w end f r = record {
     positive = rw map-append (All-push (λ x. 0 < x) (map whole ws) (whole w) f.positive r.positive);
     fit = rw map-append (All-push (λ x. x < 2 ^ bits) (map whole ws) (whole w) f.fit r.fits);
-    lefts =
-        map-append whole cdf (left ∷ []) ∙ ap (λ xs. xs ++ whole left ∷ []) f.lefts
-        ∙ ap (λ x. lefts_from 0 (map whole ws) ++ x ∷ []) (let e : whole left ≡ 0 + sum (map whole ws) = omega (arith, f.is) in e)
-        ∙ sym (lefts_from-push 0 (map whole ws) (whole w)) ∙ ap (lefts_from 0) (sym (map-append whole ws (w ∷ [])));
     is =
         r.is ∙ (let e : whole left + whole w ≡ sum (map whole ws) + whole w = omega (arith, f.is) in e)
         ∙ sym (ap sum (map-append whole ws (w ∷ [])) ∙ sum_by_push (λ x. x) (map whole ws) (whole w));
@@ -78,40 +82,31 @@ module _ {W : Type 0} (whole : W → ℕ) (bits precision : ℕ) where
       (Contains-append_left _ (map whole more) (whole w) (Contains-push (map whole ws) (whole w))) in
       elim why [ inl none ↦ omega arith | inr much ↦ omega (arith, accepted-sum infer xs a) ]
 
-  pub good-given : (ws cdf : List W) → IsFilled whole bits precision ws cdf None
-      → IsAccepted bits precision (map whole ws) × (map whole cdf ≡ lefts_from 0 (map whole ws))
-  good-given ws cdf f = (record { tiles = record { positive = f.positive; total = sym f.is }; fit = f.fit }, f.lefts)
+  good-given : (ws : List W) → IsFilled whole bits precision ws None → IsAccepted bits precision (map whole ws)
+  good-given ws f = record { tiles = record { positive = f.positive; total = sym f.is }; fit = f.fit }
 
-  pub bad-wide : (ws cdf : List W) (left : W) → IsFilled whole bits precision ws cdf (Some left)
+  pub bad-wide : (ws : List W) (left : W) → IsFilled whole bits precision ws (Some left)
       → 2 ^ bits + whole left ≤ 2 ^ precision
       → ¬ (IsAccepted bits precision (completed precision true (map whole ws)))
-  bad-wide ws cdf left f wide a =
+  bad-wide ws left f wide a =
       let last : 2 ^ precision - sum (map whole ws) < 2 ^ bits =
       All-contains (λ x. x < 2 ^ bits) _ _ a.fit (Contains-push (map whole ws) (2 ^ precision - sum (map whole ws))) in
       omega (arith, f.is)
 
-  pub good-inferred : (ws cdf : List W) (left : W) → IsFilled whole bits precision ws cdf (Some left)
-      → 2 ^ precision < 2 ^ bits + whole left
+  good-inferred : (ws : List W) (left : W) → IsFilled whole bits precision ws (Some left) → 2 ^ precision < 2 ^ bits + whole left
       → IsAccepted bits precision (completed precision true (map whole ws))
-      × (map whole (cdf ++ left ∷ []) ≡ lefts_from 0 (completed precision true (map whole ws)))
-  good-inferred ws cdf left f narrow =
+  good-inferred ws left f narrow =
       let xs : List ℕ = map whole ws in
-      let last : ℕ = 2 ^ precision - sum xs in
       let up : 0 < 2 ^ precision - sum xs = omega (arith, f.is, f.below) in
-      let low : 2 ^ precision - sum xs < 2 ^ bits = omega (arith, f.is, f.below) in (
-        record {
-          tiles =
-              record {
-                positive = All-push (λ x. 0 < x) xs (2 ^ precision - sum xs) f.positive up;
-                total = sum_by_push
-                    (λ x. x) xs (2 ^ precision - sum xs) ∙ omega (arith, f.is, f.below);
-              };
-          fit = All-push (λ x. x < 2 ^ bits) xs (2 ^ precision - sum xs) f.fit low;
-        },
-        map-append whole cdf (left ∷ []) ∙ ap (λ ys. ys ++ whole left ∷ []) f.lefts
-            ∙ ap (λ x. lefts_from 0 xs ++ x ∷ []) (let e : whole left ≡ 0 + sum xs = omega (arith, f.is) in e)
-            ∙ sym (lefts_from-push 0 xs (2 ^ precision - sum xs)),
-      )
+      let low : 2 ^ precision - sum xs < 2 ^ bits = omega (arith, f.is, f.below) in
+      record {
+        tiles =
+            record {
+              positive = All-push (λ x. 0 < x) xs (2 ^ precision - sum xs) f.positive up;
+              total = sum_by_push (λ x. x) xs (2 ^ precision - sum xs) ∙ omega (arith, f.is, f.below);
+            };
+        fit = All-push (λ x. x < 2 ^ bits) xs (2 ^ precision - sum xs) f.fit low;
+      }
 
   -- a row that leaves some of the quantiles
   pub row-within : (left w next : W) (room : ℕ) → whole left + room + 1 ≡ 2 ^ precision → 2 ^ precision ≤ 2 ^ bits
@@ -169,14 +164,14 @@ module _ {W : Type 0} (whole : W → ℕ) (bits precision : ℕ) where
   ]
 
   -- no weight can be inferred after these
-  pub bad-none_inferred : (infer : Bool) (ws cdf : List W) (left : W) (room : ℕ) → IsFilled whole bits precision ws cdf (Some left)
+  pub bad-none_inferred : (infer : Bool) (ws : List W) (left : W) (room : ℕ) → IsFilled whole bits precision ws (Some left)
       → whole left + room + 1 ≡ 2 ^ precision → IsNoneInferred bits room infer
       → ¬ (IsAccepted bits precision (completed precision infer (map whole ws)))
-  bad-none_inferred infer ws cdf left room f all why = elim why [
+  bad-none_inferred infer ws left room f all why = elim why [
     | inl given ↦ rw given (λ a. omega (arith, a.tiles.total, f.is, all))
     | inr wide ↦
         let inferred : infer ≡ true = wide.0 in
-        rw inferred (bad-wide ws cdf left f (omega (arith, all, wide.1)))
+        rw inferred (bad-wide ws left f (omega (arith, all, wide.1)))
   ]
 
 -- a weight and the word one below it, which wraps to the greatest word if the weight is 0
@@ -207,103 +202,139 @@ room_below left room all bits is narrow = omega arith
 pub end_below : (left weight room all bits : ℕ) → left + room + 1 ≡ all → all ≤ bits → weight ≤ room → left + weight < bits
 end_below left weight room all bits is narrow less = omega arith
 
--- before the first weight a cdf is begun
-pub begun-none : {S W : Type 0} (steps : S → Option W → S → Type 0) (it : S) (whole : W → ℕ) (bits precision : ℕ) (cdf : List W)
-    (left : W) (room : ℕ) → cdf ≡ [] → whole left ≡ 0 → room + 1 ≡ 2 ^ precision
-    → IsCdfBegun steps it whole bits precision [] cdf it left room
-begun-none steps it whole bits precision cdf left room empty least all = record {
+-- before the first weight all quantiles are left
+pub begun-none : {S W : Type 0} (steps : S → Option W → S → Type 0) (it : S) (whole : W → ℕ) (bits precision : ℕ) (left : W) (room : ℕ)
+    → whole left ≡ 0 → room + 1 ≡ 2 ^ precision → IsBegun steps it whole bits precision [] it left room
+begun-none steps it whole bits precision left room least all = record {
   given = refl;
-  filled = rw empty (filled-none whole bits precision left least (omega arith));
+  filled = filled-none whole bits precision left least (omega arith);
   rest = omega arith;
 }
 
-module _ {S W : Type 0} {steps : S → Option W → S → Type 0} {it : S} {whole : W → ℕ} {bits precision : ℕ} {weights cdf : List W} {s : S}
-    {left : W} {room : ℕ} (t : IsCdfBegun steps it whole bits precision weights cdf s left room) where
+module _ {S W : Type 0} {steps : S → Option W → S → Type 0} {it : S} {whole : W → ℕ} {bits precision : ℕ} {weights : List W} {s : S}
+    {left : W} {room : ℕ} (t : IsBegun steps it whole bits precision weights s left room) where
   -- one more row
-  pub begun-more : (cdf' : List W) (s' : S) (w next : W) (room' : ℕ) → cdf' ≡ cdf ++ left ∷ [] → steps s (Some w) s'
-      → 2 ^ precision ≤ 2 ^ bits → (0 < whole w) × (whole w ≤ room) → whole next ≡ whole left + whole w → room' ≡ room - whole w
-      → IsCdfBegun steps it whole bits precision (weights ++ w ∷ []) cdf' s' next room'
-  begun-more cdf' s' w next room' pushed sw narrow some end rest = record {
+  pub begun-more : (s' : S) (w next : W) (room' : ℕ) → steps s (Some w) s' → 2 ^ precision ≤ 2 ^ bits
+      → (0 < whole w) × (whole w ≤ room) → whole next ≡ whole left + whole w → room' ≡ room - whole w
+      → IsBegun steps it whole bits precision (weights ++ w ∷ []) s' next room'
+  begun-more s' w next room' sw narrow some end rest = record {
     given = yields-more steps it weights s w s' t.given sw;
     filled =
-        rw pushed
-        (filled-more whole bits precision weights cdf left w (Some next) t.filled
-        (row-within whole bits precision left w next room t.rest narrow some.0 some.1 end));
+        filled-more whole bits precision weights left w (Some next) t.filled
+        (row-within whole bits precision left w next room t.rest narrow some.0 some.1 end);
     rest = omega (arith, t.rest, some.1, end, rest);
   }
 
-  -- the last row, of a given weight
-  pub given-accepted : (infer : Bool) (w : W) → FillsAll bits (whole w) room infer
-      → IsAccepted bits precision (map whole (weights ++ w ∷ []))
-      × (map whole (cdf ++ left ∷ []) ≡ lefts_from 0 (map whole (weights ++ w ∷ [])))
-  given-accepted infer w fills = good-given whole bits precision (weights ++ w ∷ []) (cdf ++ left ∷ [])
-      (filled-more whole bits precision weights cdf left w None t.filled (row-last whole bits precision left w room infer t.rest fills))
-
-  -- a last weight that is given ends the cdf
-  pub begun-given : (infer : Bool) (s' s'' : S) (w : W) → steps s (Some w) s'
-      → FillsAll bits (whole w) room infer × steps s' None s'' → (Taken : List W → Type 0) → Taken (cdf ++ left ∷ [])
-      → AreLeftsOf steps it whole bits precision infer Taken
-  begun-given infer s' s'' w sw fills Taken taken =
-      let given : infer ≡ false = fills.0.given in
-      let good = given-accepted infer w fills.0 in (
-        weights ++ w ∷ [],
-        (s'', (s', yields-more steps it weights s w s' t.given sw, fills.1)),
-        rw given (good.0, cdf ++ left ∷ [], good.1, taken),
-      )
-
-  -- a last weight that does not fill the whole, or a later one, makes no cdf
-  pub begun-bad_given : (infer : Bool) (s' s'' : S) (w : W) → steps s (Some w) s'
-      → IsNoLast (whole w) room infer ⊎ ((room < whole w) × (more : W) × steps s' (Some more) s'')
-      → IsNoCdf steps it whole bits precision infer
-  begun-bad_given infer s' s'' w sw why =
-      let given = yields-more steps it weights s w s' t.given sw in
-      elim why [
-        | inl bad ↦ inr (
+  module _ (infer : Bool) {T : Type 0} (Took : List ℕ → T → Type 0) where
+    -- a last weight that is given
+    pub begun-given : (s' s'' : S) (w : W) (taken : T) → steps s (Some w) s' → FillsAll bits (whole w) room infer → steps s' None s''
+        → Took (map whole weights ++ whole w ∷ []) taken
+        → GaveGood steps it (λ ws. IsAccepted bits precision (completed precision infer (map whole ws))
+        × Took (completed precision infer (map whole ws)) taken)
+    begun-given s' s'' w taken sw fills end took =
+        let given : infer ≡ false = fills.given in (
           weights ++ w ∷ [],
-          s',
-          given,
-          λ more. bad-no_last whole bits precision infer weights more w room (omega (arith, t.filled.is, t.rest)) bad,
+          (s'', (s', yields-more steps it weights s w s' t.given sw, end)),
+          rw given (
+            good-given whole bits precision (weights ++ w ∷ [])
+                (filled-more whole bits precision weights left w None t.filled
+                (row-last whole bits precision left w room infer t.rest fills)),
+            rw map-append took,
+          ),
         )
-        | inr after ↦
-            let total : sum (map whole (weights ++ w ∷ [])) ≡ sum (map whole weights) + whole w =
-            ap sum (map-append whole weights (w ∷ [])) ∙ sum_by_push (λ x. x) (map whole weights) (whole w) in
-            let much : 2 ^ precision ≤ sum (map whole (weights ++ w ∷ [])) = omega (arith, total, t.filled.is, t.rest, after.0) in
-            inr (
-              (weights ++ w ∷ []) ++ after.1 ∷ [],
-              s'',
-              yields-more steps it (weights ++ w ∷ []) s' after.1 s'' given after.2,
-              λ more. bad-after whole bits precision infer (weights ++ w ∷ []) more after.1 much,
+
+    -- a last weight that is inferred
+    pub begun-inferred : (s' : S) (last : ℕ) (taken : T) → steps s None s' → (infer ≡ true) × (room + 1 < 2 ^ bits) → last ≡ room + 1
+        → Took (map whole weights ++ last ∷ []) taken
+        → GaveGood steps it (λ ws. IsAccepted bits precision (completed precision infer (map whole ws))
+        × Took (completed precision infer (map whole ws)) taken)
+    begun-inferred s' last taken none word is took =
+        let inferred : infer ≡ true = word.0 in
+        let rest : 2 ^ precision - sum (map whole weights) ≡ last = omega (arith, is, t.rest, t.filled.is) in (
+          weights,
+          (s', (s, t.given, none)),
+          rw inferred (
+            good-inferred whole bits precision weights left t.filled (omega (arith, t.rest, word.1)),
+            rw rest took,
+          ),
+        )
+
+    -- a last weight that does not fill the whole, or a later one
+    pub begun-bad_given : (Ends : ℕ → Type 0) (s' : S) (w : W) (taken : T) → steps s (Some w) s' → Took (map whole weights) taken
+        → IsNoLast (whole w) room infer ⊎ ((room < whole w) × (s'' : S) × (more : W) × steps s' (Some more) s'')
+        → AreNotTaken steps it whole bits precision infer Took Ends
+    begun-bad_given Ends s' w taken sw took why =
+        let given = yields-more steps it weights s w s' t.given sw in
+        inl (
+          elim why [
+            | inl bad ↦ inr (
+              weights ++ w ∷ [],
+              s',
+              given,
+              λ more. bad-no_last whole bits precision infer weights more w room (omega (arith, t.filled.is, t.rest)) bad,
             )
-      ]
+            | inr after ↦
+                let total : sum (map whole (weights ++ w ∷ [])) ≡ sum (map whole weights) + whole w =
+                ap sum (map-append whole weights (w ∷ [])) ∙ sum_by_push (λ x. x) (map whole weights) (whole w) in
+                let much : 2 ^ precision ≤ sum (map whole (weights ++ w ∷ [])) = omega (arith, total, t.filled.is, t.rest, after.0) in
+                inr (
+                  (weights ++ w ∷ []) ++ after.2 ∷ [],
+                  after.1,
+                  yields-more steps it (weights ++ w ∷ []) s' after.2 after.1 given after.3,
+                  λ more. bad-after whole bits precision infer (weights ++ w ∷ []) more after.2 much,
+                )
+          ],
+          map whole weights,
+          taken,
+          took,
+        )
 
-  -- the last row, of the inferred weight
-  pub inferred-accepted : room + 1 < 2 ^ bits → IsAccepted bits precision (completed precision true (map whole weights))
-      × (map whole (cdf ++ left ∷ []) ≡ lefts_from 0 (completed precision true (map whole weights)))
-  inferred-accepted narrow = good-inferred whole bits precision weights cdf left t.filled (omega (arith, t.rest, narrow))
+    -- no last weight can be inferred
+    pub begun-bad_inferred : (Ends : ℕ → Type 0) (s' : S) (taken : T) → steps s None s' → Took (map whole weights) taken
+        → IsNoneInferred bits room infer → AreNotTaken steps it whole bits precision infer Took Ends
+    begun-bad_inferred Ends s' taken none took why = inl (
+      inl (
+        weights,
+        (s', (s, t.given, none)),
+        bad-none_inferred whole bits precision infer weights left room t.filled t.rest why,
+      ),
+      map whole weights,
+      taken,
+      took,
+    )
 
-  -- a last weight that is inferred ends the cdf
-  pub begun-inferred : (infer : Bool) (s' : S) → steps s None s' → (infer ≡ true) × (room + 1 < 2 ^ bits)
-      → (Taken : List W → Type 0) → Taken (cdf ++ left ∷ []) → AreLeftsOf steps it whole bits precision infer Taken
-  begun-inferred infer s' none word Taken taken =
-      let inferred : infer ≡ true = word.0 in
-      let good = inferred-accepted word.1 in
-      (weights, (s', (s, t.given, none)), rw inferred (good.0, cdf ++ left ∷ [], good.1, taken))
+    -- no row for a given weight
+    pub begun-ended : (Ends : ℕ → Type 0) (s' : S) (w : W) → steps s (Some w) s' → Ends (length (map whole weights) + 1)
+        → AreNotTaken steps it whole bits precision infer Took Ends
+    begun-ended Ends s' w sw ends = inr (
+      length (map whole weights) + 1,
+      ends,
+      weights ++ w ∷ [],
+      SoFar,
+      (s', yields-more steps it weights s w s' t.given sw),
+      λ all b.
+          let long : length (map whole all) ≡ length weights + 1 + length b.0 =
+          length-map all whole ∙ ap length b.1 ∙ length-append (weights ++ w ∷ []) b.0 ∙ ap (λ n. n + length b.0) (length_push weights w) in
+          omega (arith, long, length-map weights whole, length-completed precision infer (map whole all)),
+    )
 
-  -- where no last weight can be inferred there is no cdf
-  pub begun-bad_inferred : (infer : Bool) (s' : S) → steps s None s' → IsNoneInferred bits room infer
-      → IsNoCdf steps it whole bits precision infer
-  begun-bad_inferred infer s' none why = inl (
-    weights,
-    (s', (s, t.given, none)),
-    bad-none_inferred whole bits precision infer weights cdf left room t.filled t.rest why,
-  )
+    -- no row for the inferred weight
+    pub begun-ended_inferred : (Ends : ℕ → Type 0) (s' : S) → steps s None s' → infer ≡ true → Ends (length (map whole weights) + 1)
+        → AreNotTaken steps it whole bits precision infer Took Ends
+    begun-ended_inferred Ends s' none inferred ends = inr (
+      length (map whole weights) + 1,
+      ends,
+      weights,
+      ToItsEnd,
+      (s', (s, t.given, none)),
+      λ all b. rw (b, inferred) (omega (arith, length_push (map whole weights) (2 ^ precision - sum (map whole weights)))),
+    )
 
 -- the left cumulatives of accepted weights, with the total after them, are a cdf
 pub cdf-taken : {S W : Type 0} (steps : S → Option W → S → Type 0) (it : S) (whole : W → ℕ) (bits precision : ℕ) (infer : Bool)
-    (Taken : List W → Type 0) (lefts cdf : List W) (total : W) → AreLeftsOf steps it whole bits precision infer Taken
-    → ((ls : List W) → Taken ls → lefts ≡ ls) → cdf ≡ lefts ++ total ∷ [] → whole total ≡ total_of bits precision
-    → IsCdfOf steps it whole bits precision infer cdf
-cdf-taken steps it whole bits precision infer Taken lefts cdf total t held is e =
-    let given = t.2 in
-    let lefts_are = held given.1 given.3 in
-    (t.0, t.1, (given.0, rw (is, lefts_are) (map-append whole given.1 (total ∷ []) ∙ rw (given.2, e) refl)))
+    (lefts cdf : List W) (total : W)
+    → GaveGood steps it (λ ws. IsAccepted bits precision (completed precision infer (map whole ws))
+    × (map whole lefts ≡ lefts_from 0 (completed precision infer (map whole ws))))
+    → cdf ≡ lefts ++ total ∷ [] → whole total ≡ total_of bits precision → IsCdfOf steps it whole bits precision infer cdf
+cdf-taken steps it whole bits precision infer lefts cdf total t is e =
+    (t.0, t.1, (t.2.0, rw is (map-append whole lefts (total ∷ []) ∙ rw (t.2.1, e) refl)))

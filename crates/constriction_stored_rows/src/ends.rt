@@ -9,7 +9,7 @@ ghost use Rattle.constriction_stored_rows.specs.SlotTable.{MayFollow};
 ghost use Rattle.constriction_stored_rows.specs.Stored.{IsStored, AreEndWords, end_at, rows_paired, weights_of, with_total};
 
 use crate::cdf_probe::CdfEntry;
-use crate::filling::with_item;
+use crate::filling::push_item;
 use constriction_model::Weight;
 use constriction_numbers::WholeNumber;
 use std::alloc::AllocError;
@@ -247,7 +247,8 @@ pub fn with_cdf<Entry, Kind: CdfEntry<Entry>, const PRECISION: usize>(
 {
     let mut all = words;
     for entry in entries {
-        all = with_item(all, Kind::cumulative_of(entry))?;
+        push_item(&mut all, Kind::cumulative_of(entry))?;
     }
-    with_item(all, Kind::Word::wrapping_pow2(PRECISION))
+    push_item(&mut all, Kind::Word::wrapping_pow2(PRECISION))?;
+    Ok(all)
 }

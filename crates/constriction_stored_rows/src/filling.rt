@@ -1,13 +1,14 @@
 //! Filling the quantiles below `2^PRECISION` with rows, one after another.
 
-ghost use Rattle.std.specs.Prelude.{◌≡◌, ◌+◌, ◌^◌, ◌<◌, ◌≤◌, ◌⊎◌, ⊤, ℕ, List, [], ◌∷◌, ◌++◌, length, map, sum, Some, None, IfOk, IsErr, OnOk, OnErr, IsTrue, true, false, min};
+ghost use Rattle.std.specs.Prelude.{◌≡◌, ◌+◌, ◌^◌, ◌<◌, ◌≤◌, ◌⊎◌, ⊤, ℕ, List, [], ◌∷◌, ◌++◌, length, map, sum, IfOk, IsOk, OnOk, OnErr, IsTrue, true, false, min};
 ghost use Rattle.std.specs.Vec.{vec_len, vec_capacity};
 ghost use Rattle.std.specs.Iterator.{IsFinite, IsFiniteIterable};
 ghost use Rattle.constriction_model.specs.Acceptance.{completed, IsAccepted};
 ghost use Rattle.constriction_model.specs.Precision.{IsPrecision};
 ghost use Rattle.constriction_stored_rows.specs.Ends.{FillsAll, IsNoLast, IsNoneInferred, IsCdfOf, IsNoCdf};
 ghost use Rattle.constriction_stored_rows.specs.Stored.{lefts_from, total_of};
-ghost use Rattle.constriction_stored_rows.specs.private.Filling.{AreLeftsOf};
+ghost use Rattle.constriction_stored_rows.specs.private.Filling.{AreNotTaken};
+ghost use Rattle.constriction_stored_rows.specs.private.Given.{GaveGood};
 
 use constriction_model::ModelError;
 use constriction_numbers::WholeNumber;
@@ -24,22 +25,22 @@ fn make_room<T: Drop>(items: &mut Vec<T>) -> Result<(), AllocError>
     items.reserve(1)
 }
 
-/// The list with one more item.
+/// Adds an item to a list.
 ///
 /// `make_room` borrows a full list under another name, so a loop that fills the list keeps its
-/// pointer, length and capacity in registers. If `make_room` took the list and returned it, the
-/// loop would clear memory for that result at each item.
+/// pointer, length and capacity in registers.
 #[inline(always)]
-pub fn with_item<T: Drop>(mut items: Vec<T>, item: T) -> Result<Vec<T>, AllocError>
-    ensures { IfOk result (λ v. v.items ≡ items.items ++ item ∷ []) }
+pub fn push_item<T: Drop>(items: &mut Vec<T>, item: T) -> Result<(), AllocError>
+    ensures { IsOk result → items.new.items ≡ items.old.items ++ item ∷ [] }
 {
     if items.len() == items.capacity() {
-        let mut full = items;
+        let alloc = *items.allocator();
+        let mut full = mem::replace(items, Vec::new(alloc));
         make_room(&mut full)?;
-        items = full;
+        *items = full;
     }
     items.push_reserved(item);
-    Ok(items)
+    Ok(())
 }
 
 /// Whether a row of this weight leaves some quantiles. `room` is the number of quantiles after the
@@ -48,7 +49,7 @@ pub fn with_item<T: Drop>(mut items: Vec<T>, item: T) -> Result<Vec<T>, AllocErr
 /// One comparison separates these weights from all others: 0, the weight that fills the quantiles,
 /// and weights that exceed them.
 #[inline(always)]
-pub(crate) fn leaves_some<Word: WholeNumber>(weight: Word, one: Word, room: Word) -> bool
+fn leaves_some<Word: WholeNumber>(weight: Word, one: Word, room: Word) -> bool
     requires one { Word.whole one ≡ 1 }
     requires range { Word.whole room < 2 ^ Word.BITS }
     ensures some { IsTrue result → (0 < Word.whole weight) × (Word.whole weight ≤ Word.whole room) }
@@ -62,12 +63,7 @@ pub(crate) fn leaves_some<Word: WholeNumber>(weight: Word, one: Word, room: Word
 /// Whether the row of a given weight that leaves no quantiles is the last one: it is if the weight
 /// fills the quantiles, and no further one is inferred.
 #[inline]
-pub(crate) fn fills_all<Word: WholeNumber>(
-    weight: Word,
-    one: Word,
-    room: Word,
-    infer_last: bool,
-) -> bool
+fn fills_all<Word: WholeNumber>(weight: Word, one: Word, room: Word, infer_last: bool) -> bool
     requires one { Word.whole one ≡ 1 }
     requires none_left { (Word.whole weight ≡ 0) ⊎ (Word.whole room < Word.whole weight) }
     ensures filled { IsTrue result
@@ -131,107 +127,105 @@ pub fn copy_of<Word: Copy>(alloc: Global, words: &[Word]) -> Result<Vec<Word>, A
     Ok(copy)
 }
 
-/// What takes left cumulatives, one after another.
-trait TakesLefts<Word>: Drop {
-    // These left cumulatives were taken, and no others.
-    ghost holds: { Self → List Word → Type 0 };
+/// What takes the rows of weights, one after another.
+pub(crate) trait TakesWeights<Word: WholeNumber>: Drop {
+    // Between the first state and the second one, the rows of these weights were taken.
+    ghost took: { Self → List ℕ → Self → Type 0 };
+
+    // So many rows, or more, are not taken after this state.
+    ghost ends_before: { Self → ℕ → Type 0 };
 
     // Whether memory may be refused.
     ghost may_refuse: { Type 0 };
 
-    /// The same with one more.
-    fn with_left(self, left: Word) -> Result<Self, AllocError>
-        ensures held { IfOk result (λ t. (lefts : List Word) → holds self lefts
-            → holds t (lefts ++ left ∷ [])) }
-        ensures refused { IsErr result → may_refuse };
+    /// Takes one more row. `InvalidTable` comes only if there is none to take.
+    fn take_weight(&mut self, left: Word, weight: Word) -> Result<(), ModelError>
+        requires positive { 0 < Word.whole weight }
+        requires begun { (first : Self) × (weights : List ℕ) × took first weights self.old
+            × (Word.whole left ≡ sum weights) }
+        ensures took { IsOk result → (first : Self) (weights : List ℕ) → took first weights self.old
+            → Word.whole left ≡ sum weights
+            → took first (weights ++ Word.whole weight ∷ []) self.new }
+        ensures ended { result ≡ Err ModelError.InvalidTable → (first : Self) (weights : List ℕ)
+            → took first weights self.old → ends_before first (length weights + 1) }
+        ensures memory { result ≡ Err ModelError.OutOfMemory → may_refuse };
 }
 
-impl<Word: Drop> TakesLefts<Word> for Vec<Word> {
-    ghost holds = { λ v lefts. v.items ≡ lefts };
+impl<Word: WholeNumber> TakesWeights<Word> for Vec<Word> {
+    ghost took = { λ _ weights v. map Word.whole v.items ≡ lefts_from 0 weights };
+
+    ghost ends_before = { λ _ _. ⊥ };
 
     ghost may_refuse = { ⊤ };
 
     #[inline(always)]
-    fn with_left(self, left: Word) -> Result<Vec<Word>, AllocError> {
-        with_item(self, left)
+    fn take_weight(&mut self, left: Word, _weight: Word) -> Result<(), ModelError> {
+        push_item(self, left)?;
+        Ok(())
     }
 }
 
-/// Left cumulatives that are not stored, since their weights are judged alone.
+/// Rows that are not stored, since their weights are judged alone.
 #[derive(Drop)]
 struct Unstored;
 
-impl<Word: Drop> TakesLefts<Word> for Unstored {
-    ghost holds = { λ _ _. ⊤ };
+impl<Word: WholeNumber> TakesWeights<Word> for Unstored {
+    ghost took = { λ _ _ _. ⊤ };
+
+    ghost ends_before = { λ _ _. ⊥ };
 
     ghost may_refuse = { ⊥ };
 
     #[inline(always)]
-    fn with_left(self, _left: Word) -> Result<Unstored, AllocError> {
-        Ok(self)
+    fn take_weight(&mut self, _left: Word, _weight: Word) -> Result<(), ModelError> {
+        Ok(())
     }
 }
 
-/// Whether a weight that leaves no quantiles is the last one, and fills them.
+/// Judges the weights of an iterator, and has the row of each taken.
+///
+/// A weight is judged before its row is taken, and the row is taken before the next weight is read.
 #[inline(always)]
-fn is_end_of_given<Word: WholeNumber, Weights: Iterator<Item = Word>>(
-    rest: &mut Weights,
-    weight: Word,
-    one: Word,
-    room: Word,
-    infer_last: bool,
-) -> bool
-    requires one { Word.whole one ≡ 1 }
-    requires none_left { (Word.whole weight ≡ 0) ⊎ (Word.whole room < Word.whole weight) }
-    requires goes { Weights.can_next rest.old }
-    ensures filled { IsTrue result → FillsAll Word.BITS (Word.whole weight) (Word.whole room)
-        infer_last × Weights.next_gives rest.old None rest.new }
-    ensures bad { result ≡ false → IsNoLast (Word.whole weight) (Word.whole room) infer_last
-        ⊎ ((Word.whole room < Word.whole weight) × (more : Word)
-        × Weights.next_gives rest.old (Some more) rest.new) }
-{
-    if !fills_all(weight, one, room, infer_last) {
-        return false;
-    }
-    rest.next().is_none()
-}
-
-/// Judges the weights of an iterator, and has the left cumulative of each row taken.
-#[inline(always)]
-fn lefts_taken<
+pub(crate) fn weights_taken<
     Word: WholeNumber,
     Weights: Iterator<Item = Word>,
-    Taken: TakesLefts<Word>,
+    Taken: TakesWeights<Word>,
     const PRECISION: usize,
 >(mut taken: Taken, rest: &mut Weights, infer_last: bool) -> Result<Taken, ModelError>
     requires precision { IsPrecision Word.BITS PRECISION }
-    requires none { Taken.holds taken [] }
+    requires none { Taken.took taken [] taken }
     requires goes { Weights.can_next rest.old }
     requires ends { IsFinite (Weights.remaining rest.old) }
-    ensures ok { IfOk result (λ t. AreLeftsOf Weights.next_gives rest.old Word.whole Word.BITS
-        PRECISION infer_last (Taken.holds t)) }
-    ensures invalid { result ≡ Err ModelError.InvalidTable
-        → IsNoCdf Weights.next_gives rest.old Word.whole Word.BITS PRECISION infer_last }
+    ensures ok { IfOk result (λ t. GaveGood Weights.next_gives rest.old
+        (λ ws. IsAccepted Word.BITS PRECISION (completed PRECISION infer_last (map Word.whole ws))
+        × Taken.took taken (completed PRECISION infer_last (map Word.whole ws)) t)) }
+    ensures invalid { result ≡ Err ModelError.InvalidTable → AreNotTaken Weights.next_gives rest.old
+        Word.whole Word.BITS PRECISION infer_last (Taken.took taken) (Taken.ends_before taken) }
     ensures memory { result ≡ Err ModelError.OutOfMemory → Taken.may_refuse }
 {
     let one = Word::greatest_of_bits(1);
     let mut left = Word::least();
     let mut room = Word::greatest_of_bits(PRECISION);
     'rows: while let Some(weight) = rest.next() {
-        taken = taken.with_left(left)?;
         if !leaves_some(weight, one, room) {
-            if !is_end_of_given(rest, weight, one, room, infer_last) {
+            if !fills_all(weight, one, room, infer_last) {
+                return Err(ModelError::InvalidTable);
+            }
+            taken.take_weight(left, weight)?;
+            if let Some(_) = rest.next() {
                 return Err(ModelError::InvalidTable);
             }
             return Ok(taken);
         }
+        taken.take_weight(left, weight)?;
         left = left.plus(weight);
         room = room.minus(weight);
     }
     if !is_inferred_last(room, infer_last) {
         return Err(ModelError::InvalidTable);
     }
-    Ok(taken.with_left(left)?)
+    taken.take_weight(left, room.plus(one))?;
+    Ok(taken)
 }
 
 /// Fills an empty cdf from the weights of an iterator.
@@ -252,8 +246,9 @@ fn fill_cdf<Word: WholeNumber, Weights: Iterator<Item = Word>, const PRECISION: 
     ensures invalid { result ≡ Err ModelError.InvalidTable
         → IsNoCdf Weights.next_gives rest.old Word.whole Word.BITS PRECISION infer_last }
 {
-    let lefts = lefts_taken::<Word, Weights, Vec<Word>, PRECISION>(cdf, rest, infer_last)?;
-    Ok(with_item(lefts, Word::wrapping_pow2(PRECISION))?)
+    let mut cdf = weights_taken::<Word, Weights, Vec<Word>, PRECISION>(cdf, rest, infer_last)?;
+    push_item(&mut cdf, Word::wrapping_pow2(PRECISION))?;
+    Ok(cdf)
 }
 
 /// The cdf of these weights. The last weight may be inferred.
@@ -344,7 +339,7 @@ pub fn refill_cdf<Word: WholeNumber, const PRECISION: usize>(
     ensures err { OnErr result (cdf.new.items ≡ cdf.old.items) }
 {
     let mut judged = weights.iter().copied();
-    lefts_taken::<Word, _, Unstored, PRECISION>(Unstored, &mut judged, infer_last)?;
+    weights_taken::<Word, _, Unstored, PRECISION>(Unstored, &mut judged, infer_last)?;
     let before = before_last::<Word, PRECISION>(weights, infer_last);
     let Some(words) = before.len().checked_add(2) else {
         return Err(ModelError::OutOfMemory);

@@ -24,7 +24,7 @@ pub use crate::ends::{
     paired_row_ending_at, with_cdf,
 };
 pub use crate::filling::{
-    cdf_of, copy_of, entries_announced, refill_cdf, rows_announced, with_item,
+    cdf_of, copy_of, entries_announced, push_item, refill_cdf, rows_announced,
 };
 pub use crate::judging::is_cdf;
 pub use crate::paired::{entries_cloned, has_symbol};

@@ -7,7 +7,7 @@ ghost use Rattle.constriction_model.specs.Precision.{IsPrecision};
 ghost use Rattle.constriction_stored_rows.specs.private.Filling.{HoldsRows};
 ghost use Rattle.constriction_model.specs.Rows.{rows_of};
 
-use crate::filling::entries_announced;
+use crate::filling::{entries_announced, push_item};
 use crate::reading::{TakesRows, rows_read};
 use constriction_model::ModelError;
 use constriction_numbers::WholeNumber;
@@ -26,7 +26,7 @@ impl<Word: WholeNumber, Symbol: Drop> TakesRows<Symbol, Word> for Uncompared<Wor
 
     #[inline]
     fn take_row(&mut self, symbol: Symbol, left: Word, _weight: Word) -> Result<(), ModelError> {
-        self.entries.push((left, symbol))?;
+        push_item(&mut self.entries, (left, symbol))?;
         Ok(())
     }
 

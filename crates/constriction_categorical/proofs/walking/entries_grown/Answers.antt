@@ -1,4 +1,4 @@
-use Rattle.std.proofs.Common.{false, refl}
+use Rattle.std.proofs.Common.{false, true, refl}
 use Rattle.constriction_categorical.proofs.CollectLemmas.{collected-none, collected-uncompared, collected-end}
 use Rattle.constriction_categorical.proofs.walking.entries_grown.Goals as goal
 
@@ -15,9 +15,9 @@ rows-preserved g c =
       next.0,
       next.1,
       collected-uncompared g.Walk.Iterator.next_gives c.args.walk c.rows.walk c.next.new.self c.rows.entries.items
-          c.in_ok-entries.entries.items
+          c.push_item.new.items.items
           c.in-Some.row (c.in_ok-symbol.symbol, c.in_ok-symbol.left, c.in_ok-symbol._weight) c.rows.invariant.2 c.in-Some.ensures.steps
-          c.in_ok-symbol.was c.in_ok-entries.ensures,
+          c.in_ok-symbol.was (c.in_ok-push_item.ensures (refl {a = true})),
     )
 
 pub returns : goal.returns
