@@ -60,7 +60,7 @@ fn end_by_words<Word: WholeNumber, Symbol, const PRECISION: usize>(
 
 /// Where the row at `index` ends: where the next row begins, or the total.
 #[inline(always)]
-fn end_of_row<Word: WholeNumber, Symbol, const PRECISION: usize>(
+fn end_in_entries<Word: WholeNumber, Symbol, const PRECISION: usize>(
     entries: &[(Word, Symbol)],
     index: usize,
 ) -> Word
@@ -87,7 +87,7 @@ fn end_out_of_line<Word: WholeNumber, Symbol, const PRECISION: usize>(
     ensures { Word.whole result
         ≡ end_at Word.BITS PRECISION (map (λ x. Word.whole x.0) entries.now) index }
 {
-    end_of_row::<Word, Symbol, PRECISION>(entries, index)
+    end_in_entries::<Word, Symbol, PRECISION>(entries, index)
 }
 
 /// Where the row at `from` ends, in a walk up to `to`, or `None` at the end of the walk. While more
@@ -170,7 +170,7 @@ pub fn paired_row_at<Word: WholeNumber, Symbol, const PRECISION: usize>(
     ensures weight { Word.whole (Word.base result.1)
         ≡ slice_index (weights_of PRECISION (map (λ x. Word.whole x.0) entries.now)) index }
 {
-    let end = end_of_row::<Word, Symbol, PRECISION>(entries, index);
+    let end = end_in_entries::<Word, Symbol, PRECISION>(entries, index);
     paired_row_ending_at::<Word, Symbol, PRECISION>(entries, end, index)
 }
 
@@ -190,10 +190,8 @@ fn cloned_row_ending_at<Word: WholeNumber, Symbol: Clone, const PRECISION: usize
         (rows_paired Word.whole PRECISION entries.now) index result }
 {
     let (left, weight) = paired_row_ending_at::<Word, Symbol, PRECISION>(entries, end, index);
-    match entries[index].1.clone() {
-        Ok(symbol) => Ok((symbol, left, weight)),
-        Err(error) => Err(error),
-    }
+    let symbol = entries[index].1.clone()?;
+    Ok((symbol, left, weight))
 }
 
 /// The row at `index`, with a clone of its symbol. `end_words` are the words of [`end_words_of`].

@@ -134,7 +134,7 @@ pub fn table_of_slots<Entry, Kind: CdfEntry<Entry>, const PRECISION: usize, cons
 
 /// The slot of a quantile.
 #[inline]
-fn slot_of<Word: WholeNumber, const PRECISION: usize, const SLOT_BITS: usize>(
+fn slot_of_quantile<Word: WholeNumber, const PRECISION: usize, const SLOT_BITS: usize>(
     quantile: Word,
 ) -> usize
     requires narrow { PRECISION ≤ 63 }
@@ -160,7 +160,7 @@ fn rows_of_slot<Entry, Kind: CdfEntry<Entry>, const PRECISION: usize, const SLOT
         (Kind.Word.whole quantile / slot_width PRECISION SLOT_BITS) result.0 result.1 }
     ensures order { result.0 ≤ result.1 }
 {
-    let slot = slot_of::<Kind::Word, PRECISION, SLOT_BITS>(quantile);
+    let slot = slot_of_quantile::<Kind::Word, PRECISION, SLOT_BITS>(quantile);
     if width_of_slots::<PRECISION, SLOT_BITS>() == 1 {
         let row = table[slot].to_number();
         return (row, row);

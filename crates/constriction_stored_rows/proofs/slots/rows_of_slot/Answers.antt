@@ -7,14 +7,14 @@ use Rattle.constriction_stored_rows.proofs.slots.rows_of_slot.Goals as goal
 pub bounds-table-slot : goal.bounds-table-slot
 bounds-table-slot g c =
     alone-within g.Kind.Word.WholeNumber.whole g.Kind.CdfEntry.cumulative c.args.entries.now c.args.table.now _ _ _ c.requires.slots
-    c.slot_of-slot.ensures.below
+    c.slot_of_quantile-slot.ensures.below
     (omega (arith, c.width_of_slots.ensures, c.if-width_of_slots-eq1.true))
 
 pub to_number-row-requires : goal.to_number-row-requires
 to_number-row-requires g c =
     let bound : g.Kind.Word.WholeNumber.whole c.index-table-slot.result < length c.args.entries.now =
     alone-row g.Kind.Word.WholeNumber.whole g.Kind.CdfEntry.cumulative c.args.entries.now c.args.table.now _ _ _ c.requires.slots
-    c.slot_of-slot.ensures.below
+    c.slot_of_quantile-slot.ensures.below
     (omega (arith, c.width_of_slots.ensures, c.if-width_of_slots-eq1.true))
     c.index-table-slot.result c.index-table-slot.is in
     search rules
@@ -22,15 +22,15 @@ to_number-row-requires g c =
 pub returns-then-width_of_slots-eq1-clause-slot : goal.returns-then-width_of_slots-eq1-clause-slot
 returns-then-width_of_slots-eq1-clause-slot g c =
     let slot = slot-alone g.Kind.Word.WholeNumber.whole g.Kind.CdfEntry.cumulative c.args.entries.now c.args.table.now _ _ _ c.requires.slots
-    c.slot_of-slot.ensures.below
+    c.slot_of_quantile-slot.ensures.below
     (omega (arith, c.width_of_slots.ensures, c.if-width_of_slots-eq1.true))
     c.index-table-slot.result c.index-table-slot.is in
-    rw (← c.slot_of-slot.ensures.is, c.to_number-row.ensures) slot
+    rw (← c.slot_of_quantile-slot.ensures.is, c.to_number-row.ensures) slot
 
 pub bounds-table-slot-2 : goal.bounds-table-slot-2
 bounds-table-slot-2 g c =
     let within = pair-within g.Kind.Word.WholeNumber.whole g.Kind.CdfEntry.cumulative c.args.entries.now c.args.table.now _ _ _ c.requires.slots
-    c.slot_of-slot.ensures.below
+    c.slot_of_quantile-slot.ensures.below
     (omega (arith, pow_pos (g.row.PRECISION - g.row.SLOT_BITS), c.width_of_slots.ensures, c.if-width_of_slots-eq1.false)) in
     omega (arith, within)
 
@@ -38,7 +38,7 @@ pub to_number-requires : goal.to_number-requires
 to_number-requires g c =
     let bound : g.Kind.Word.WholeNumber.whole c.index-table-slot-2.result < length c.args.entries.now =
     pair-first g.Kind.Word.WholeNumber.whole g.Kind.CdfEntry.cumulative c.args.entries.now c.args.table.now _ _ _ c.requires.slots
-    c.slot_of-slot.ensures.below
+    c.slot_of_quantile-slot.ensures.below
     (omega (arith, pow_pos (g.row.PRECISION - g.row.SLOT_BITS), c.width_of_slots.ensures, c.if-width_of_slots-eq1.false))
     c.index-table-slot-2.result c.index-table-slot-2.is in
     search rules
@@ -46,14 +46,14 @@ to_number-requires g c =
 pub offset_bounds-table-slot-3 : goal.offset_bounds-table-slot-3
 offset_bounds-table-slot-3 g c =
     let within = pair-within g.Kind.Word.WholeNumber.whole g.Kind.CdfEntry.cumulative c.args.entries.now c.args.table.now _ _ _ c.requires.slots
-    c.slot_of-slot.ensures.below
+    c.slot_of_quantile-slot.ensures.below
     (omega (arith, pow_pos (g.row.PRECISION - g.row.SLOT_BITS), c.width_of_slots.ensures, c.if-width_of_slots-eq1.false)) in
     omega (arith, within)
 
 pub bounds-table-slot-3 : goal.bounds-table-slot-3
 bounds-table-slot-3 g c =
     let within = pair-within g.Kind.Word.WholeNumber.whole g.Kind.CdfEntry.cumulative c.args.entries.now c.args.table.now _ _ _ c.requires.slots
-    c.slot_of-slot.ensures.below
+    c.slot_of_quantile-slot.ensures.below
     (omega (arith, pow_pos (g.row.PRECISION - g.row.SLOT_BITS), c.width_of_slots.ensures, c.if-width_of_slots-eq1.false)) in
     omega (arith, within)
 
@@ -61,7 +61,7 @@ pub to_number-requires-2 : goal.to_number-requires-2
 to_number-requires-2 g c =
     let bound : g.Kind.Word.WholeNumber.whole c.index-table-slot-3.result < length c.args.entries.now =
     pair-last g.Kind.Word.WholeNumber.whole g.Kind.CdfEntry.cumulative c.args.entries.now c.args.table.now _ _ _ c.requires.slots
-    c.slot_of-slot.ensures.below
+    c.slot_of_quantile-slot.ensures.below
     (omega (arith, pow_pos (g.row.PRECISION - g.row.SLOT_BITS), c.width_of_slots.ensures, c.if-width_of_slots-eq1.false))
     c.index-table-slot-3.result c.index-table-slot-3.is in
     search rules
@@ -69,10 +69,10 @@ to_number-requires-2 g c =
 pub returns-clause-slot : goal.returns-clause-slot
 returns-clause-slot g c =
     let slot = slot-pair g.Kind.Word.WholeNumber.whole g.Kind.CdfEntry.cumulative c.args.entries.now c.args.table.now _ _ _ c.requires.slots
-    c.slot_of-slot.ensures.below
+    c.slot_of_quantile-slot.ensures.below
     (omega (arith, pow_pos (g.row.PRECISION - g.row.SLOT_BITS), c.width_of_slots.ensures, c.if-width_of_slots-eq1.false))
     c.index-table-slot-2.result c.index-table-slot-3.result c.index-table-slot-2.is c.index-table-slot-3.is in
-    rw (← c.slot_of-slot.ensures.is, c.to_number.ensures, c.to_number-2.ensures) slot
+    rw (← c.slot_of_quantile-slot.ensures.is, c.to_number.ensures, c.to_number-2.ensures) slot
 
 pub returns-clause-order : goal.returns-clause-order
 returns-clause-order g c =

@@ -1,7 +1,7 @@
 use Rattle.std.proofs.Common.{◌≡◌, ◌/◌, refl}
 use Rattle.constriction_stored_rows.specs.Slots.{slot_width}
 use Rattle.constriction_stored_rows.proofs.SlotFilling.{slot-below}
-use Rattle.constriction_stored_rows.proofs.slots.slot_of.Goals as goal
+use Rattle.constriction_stored_rows.proofs.slots.slot_of_quantile.Goals as goal
 
 pub returns : goal.returns
 returns g c =
