@@ -3,7 +3,6 @@
 use Rattle.std.specs.Prelude.{◌≡◌, ℕ, List, [], ◌∷◌, Bool, Option}
 use Rattle.constriction_model.specs.Rows.{Row, RowsTile, entry_of}
 use Rattle.constriction_coders.specs.Spans.{IsMessageOf}
-use Rattle.constriction_coders.specs.StackMessages.{IsStackOf}
 
 module _ {State Symbol : Type 0} where
   -- the symbols, each with the state in which it is coded
@@ -15,15 +14,11 @@ module _ {State Symbol : Type 0} where
   abbrev pub entry_at : (State → Symbol → Option (ℕ × ℕ)) → State × Symbol → Option (ℕ × ℕ)
   entry_at entry place = entry place.0 place.1
 
-  module _ (entry : State → Symbol → Option (ℕ × ℕ)) (next : State → Symbol → State) (precision : ℕ) (first : State)
-      (symbols : List Symbol) (words : List ℕ) where
-    -- these are the words of these symbols in a range coder, the first one in the first state
-    abbrev pub IsMessageFrom : Type 0
-    IsMessageFrom = IsMessageOf (entry_at entry) precision (placed next first symbols) words
-
-    -- the same on a stack, with the first symbol on top
-    abbrev pub IsStackFrom : Type 0
-    IsStackFrom = IsStackOf (entry_at entry) precision (placed next first symbols) words
+  -- these are the words of these symbols in a range coder, the first one in the first state
+  abbrev pub IsMessageFrom : (entry : State → Symbol → Option (ℕ × ℕ)) (next : State → Symbol → State) (precision : ℕ) (first : State)
+      (symbols : List Symbol) (words : List ℕ) → Type 0
+  IsMessageFrom entry next precision first symbols words =
+      IsMessageOf (entry_at entry) precision (placed next first symbols) words
 
 -- the entry of a symbol by the model that is given with it
 abbrev pub entry_by : {Symbol Model : Type 0} → (Symbol → Symbol → Bool) → (Model → List (Row Symbol)) → Symbol × Model → Option (ℕ × ℕ)

@@ -162,7 +162,7 @@ pub fn weights_of<const PRECISION: usize>(
     let mut weights = Vec::new(alloc);
     match weigh::<PRECISION>(counts, &mut weights) {
         Ok(()) => Ok(weights),
-        Err(fault) => Err(fault),
+        Err(error) => Err(error),
     }
 }
 
