@@ -6,6 +6,7 @@ pub mod ListLemmas
 pub mod MessageReading
 pub mod MixerLemmas
 pub mod NumberLemmas
-pub mod Reading
+pub mod ReadOnce
 pub mod Rows
 pub mod Runs
+pub mod Telling

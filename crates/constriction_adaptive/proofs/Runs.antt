@@ -1,5 +1,5 @@
 -- Runs of symbols in their states: they grow at the end, are joined, and stop.
-use Rattle.std.proofs.Common.{◌≡◌, ℕ, ◌+◌, ◌<◌, suc, Bool, List, [], ◌∷◌, ◌++◌, fold, length, take, drop, get_or, refl, ap, sym, ◌∙◌, subst}
+use Rattle.std.proofs.Common.{◌≡◌, ℕ, ◌+◌, ◌<◌, suc, Bool, List, [], ◌∷◌, ◌++◌, fold, length, take, drop, get_or, Option, Result, refl, ap, inl, inr, sym, ◌∙◌, subst}
 use Rattle.std.specs.Prelude.{All}
 use Rattle.std.specs.List.{AllZip}
 use Rattle.std.proofs.lemmas.List.{take_more}
@@ -7,10 +7,14 @@ use Rattle.std.proofs.lemmas.List.Elements.{All-append, All-cons, All-nil}
 use Rattle.std.proofs.lemmas.List.Sums.{fold-append}
 use Rattle.constriction_model.specs.Coding.{InTurn}
 use Rattle.constriction_model.specs.Rows.{Row, RowsTile, entry_of}
+use Rattle.constriction_words.specs.declared.CoderError.TheVariants.{Frontend}
+use Rattle.constriction_coders.specs.Intervals.{Held, DecodesFromQueue, IsAboveAll}
+use Rattle.constriction_coders.specs.declared.queue.range_decoder.DecoderFrontendError.TheVariants.{InvalidData, OutOfMemory}
 use Rattle.constriction_coders.specs.Places.{placed, entry_at, IsDecodedAt}
 use Rattle.constriction_coders.specs.Spans.{Span, IsNarrowed}
 use Rattle.constriction_coders.proofs.Stopping.{split-at-symbol}
-use Rattle.constriction_adaptive.specs.Predicted.{entry_in, AllTile, AreCoded, DecodingStops, EncodingStops}
+use Rattle.constriction_adaptive.specs.Predicted.{predicted_entry, AllTile, AreCoded, AdaptiveDecodingStops, AdaptiveEncodingStops, IsNotDecoded}
+use Rattle.constriction_words.specs.declared.CoderError.{CoderError}
 
 module _ {State Symbol : Type 0} (next : State → Symbol → State) where
   -- symbols after others stand in the states that the others lead to
@@ -55,10 +59,10 @@ module _ {State Symbol : Type 0} (next : State → Symbol → State) where
 
       -- or it is not coded, and nothing changes
       pub encoding-stops : (Fault : State × Symbol → C → Type 0) (last : State) (new : C) → Fault (between, x) mid → last ≡ between
-          → new ≡ mid → EncodingStops next Step Fault xs first old last new
+          → new ≡ mid → AdaptiveEncodingStops next Step Fault xs first old last new
       encoding-stops Fault last new fault unlearned same =
-          subst (λ (s : State). EncodingStops next Step Fault xs first old s new) (sym unlearned)
-          (subst (λ (c : C). EncodingStops next Step Fault xs first old between c) (sym same) (record {
+          subst (λ (s : State). AdaptiveEncodingStops next Step Fault xs first old s new) (sym unlearned)
+          (subst (λ (c : C). AdaptiveEncodingStops next Step Fault xs first old between c) (sym same) (record {
             done = take i xs;
             symbol = x;
             after = drop (suc i) xs;
@@ -67,16 +71,18 @@ module _ {State Symbol : Type 0} (next : State → Symbol → State) where
             fault = fault;
           }))
 
-    -- a run that was cut short by a fault stops there
-    pub decoding-stops : (Fault : C → C → Type 0) (count : ℕ) (xs : List Symbol) (first : State) (old : C) (between : State) (mid : C)
-        (last : State) (new : C) → AreCoded next Step xs first old between mid → length xs < count → Fault mid new → last ≡ between
-        → DecodingStops next Step Fault count first old last new
-    decoding-stops Fault count xs first old between mid last new coded fewer fault unlearned = record {
+    -- a run that was cut short stops there
+    pub decoding-stops : {Coder Fault E : Type 0} (held : Coder → C) (IsRefusal : Fault → Type 0)
+        (Tells : State → Coder → Result Symbol (CoderError Fault E) → Coder → Type 0) (count : ℕ) (error : CoderError Fault E)
+        (xs : List Symbol) (first : State) (old : C) (between : State) (reached : Coder) (last : State) (new : Coder)
+        → AreCoded next Step xs first old between (held reached) → length xs < count
+        → IsNotDecoded IsRefusal (Tells between) error reached new → last ≡ between
+        → AdaptiveDecodingStops next Step held IsRefusal Tells count error first old last new
+    decoding-stops held IsRefusal Tells count error xs first old between reached last new coded fewer why unlearned = record {
       done = xs;
-      reached = mid;
+      reached = reached;
       coded = record { led = coded.led; learned = unlearned ∙ coded.learned };
-      fewer = fewer;
-      fault = fault;
+      why = inl (fewer, subst (λ (s : State). IsNotDecoded IsRefusal (Tells s) error reached new) (sym unlearned) why);
     }
 
   -- what comes back leads to the same state
@@ -118,7 +124,7 @@ module _ {State Symbol : Type 0} (rows : State → List (Row Symbol)) (eq : Symb
     (made : List (Row Symbol)) (state : State) (is : made ≡ rows state) where
   -- a span narrowed by a model's entry is narrowed by the entry in its state
   pub narrowed-in : (symbol : Symbol) (old new : Span) → IsNarrowed (entry_of eq made symbol) precision old new
-      → IsNarrowed (entry_at (entry_in rows eq) (state, symbol)) precision old new
+      → IsNarrowed (entry_at (predicted_entry rows eq) (state, symbol)) precision old new
   narrowed-in symbol old new step = subst (λ (r : List (Row Symbol)). IsNarrowed (entry_of eq r symbol) precision old new) is step
 
   -- rows of a state that tile
@@ -128,9 +134,20 @@ module _ {State Symbol : Type 0} (rows : State → List (Row Symbol)) (eq : Symb
   -- a symbol decoded by a model's rows is decoded by the rows of its state
   pub decoded-in : {C : Type 0} (Step : List (Row Symbol) → Symbol → C → C → Type 0) (symbol : Symbol) (old new : C)
       → RowsTile 32 precision made → Step made symbol old new
-      → IsDecodedAt eq (entry_in rows eq) rows precision Step (state, symbol) old new
+      → IsDecodedAt eq (predicted_entry rows eq) rows precision Step (state, symbol) old new
   decoded-in {C = C} Step symbol old new tile step = record {
     tile = tile-in tile;
     alike = λ s. refl;
     step = subst (λ (r : List (Row Symbol)). Step r symbol old new) is step;
   }
+
+-- ---- a decoder of a queue whose data is invalid
+
+-- has its point above all parts
+pub above-all : {Symbol Coder S E : Type 0} (held : Coder → Held S) (MayRefuse : Symbol → Type 0) (rows : List (Row Symbol))
+    (gives : S → Result (Option ℕ) E → S → Type 0) (precision : ℕ) (old new : Coder)
+    → IsNotDecoded (λ fault. fault ≡ OutOfMemory)
+    (λ from answer to. DecodesFromQueue MayRefuse rows gives precision (held from) answer (held to)) (Frontend InvalidData) old new
+    → IsAboveAll precision (held old).held
+above-all held MayRefuse rows gives precision old new (inl (fault, is, same, stays)) = cc
+above-all held MayRefuse rows gives precision old new (inr tells) = tells.fault.0

@@ -1,8 +1,9 @@
 -- Bytes as bits, the highest first, and the bytes that a range decoder reads from words.
-use Rattle.std.specs.Prelude.{◌≡◌, ◌<◌, ◌+◌, ◌*◌, ◌/◌, ◌%◌, ℕ, List, [], ◌∷◌, ◌++◌, All, Bool, nat_eq, Option, Some, None, Result, Ok, Err}
+use Rattle.std.specs.Prelude.{◌≡◌, ◌<◌, ◌+◌, ◌*◌, ◌/◌, ◌%◌, ℕ, List, [], ◌∷◌, ◌++◌, All, Bool, nat_eq, Option, Result}
 use Rattle.std.specs.Bool.{beq}
 use Rattle.constriction_model.specs.Coding.{InTurn}
 use Rattle.constriction_model.specs.Rows.{Row}
+use Rattle.constriction_coders.specs.EncodedWords.{TakesFirst}
 use Rattle.constriction_coders.specs.Intervals.{Held, IsStart}
 use Rattle.constriction_coders.specs.Places.{placed}
 use Rattle.constriction_adaptive.specs.Bit.{bit_number}
@@ -24,11 +25,13 @@ abbrev pub number_from : ℕ → List Bool → ℕ
 number_from before [] = before
 number_from before (b ∷ bs) = number_from (2 * before + bit_number b) bs
 
--- A read takes the first of these words and leaves the others. If there is none, it answers None.
-abbrev pub TakesFirst : List ℕ → Result (Option ℕ) ⊥ → List ℕ → Type 0
-TakesFirst words (Ok (Some word)) left = words ≡ word ∷ left
-TakesFirst words (Ok None) left = (words ≡ []) × (left ≡ [])
-TakesFirst words (Err error) left = ⊥
+-- a read takes the first of these words and leaves the others; if there is none, it answers None
+abbrev pub TakesWord : List ℕ → Result (Option ℕ) ⊥ → List ℕ → Type 0
+TakesWord = TakesFirst
+
+-- a bit is read from words by the rows of its state
+abbrev pub IsBitRead : {State : Type 0} → (State → List (Row Bool)) → State × Bool → Held (List ℕ) → Held (List ℕ) → Type 0
+IsBitRead rows = IsReadIn rows (λ s t. t ≡ s) beq 16 TakesWord
 
 -- A range decoder of these words, which may have others after them, reads these bytes: each bit by the rows of its state, of which the first
 -- one is `first`. If no word is left, it reads 0.
@@ -36,6 +39,6 @@ pub record AreReadFrom {State : Type 0} (rows : State → List (Row Bool)) (next
     (bytes words : List ℕ) : Type 0 where
   pub small : All (λ b. b < 256) bytes
   pub start : Held (List ℕ)
-  pub begun : IsStart TakesFirst words start.held start.source
+  pub begun : IsStart TakesWord words start.held start.source
   pub end : Held (List ℕ)
-  pub led : InTurn (IsReadIn rows (λ s t. t ≡ s) beq 16 TakesFirst) (placed next first (all_bits bytes)) start end
+  pub led : InTurn (IsBitRead rows) (placed next first (all_bits bytes)) start end

@@ -1,5 +1,5 @@
 -- Contexts of the bits of bytes. In each the weight of a 0 out of 2 ^ 16 moves towards the bits that came.
-use Rattle.std.specs.Prelude.{ℕ, ◌+◌, ◌-◌, ◌*◌, ◌/◌, ◌%◌, ◌^◌, List, Bool, true, false, if◌then◌else◌, nat_lt, slice_index, slice_set, replicate}
+use Rattle.std.specs.Prelude.{ℕ, ◌+◌, ◌-◌, ◌*◌, ◌/◌, ◌%◌, ◌^◌, List, Bool, true, false, if◌then◌else◌, nat_eq, nat_lt, slice_index, slice_set, replicate}
 use Rattle.constriction_model.specs.Rows.{Row}
 use Rattle.constriction_adaptive.specs.Bit.{at_least_one, bit_number, bit_rows}
 
@@ -28,28 +28,23 @@ pub record Contexts : Type 0 where
   pub history : ℕ
   pub node : ℕ
 
--- `slot_of history node` is the slot of a context
-module _ (slot_of : ℕ → ℕ → ℕ) where
-  -- the rows of the next bit
-  abbrev pub rows_in : Contexts → List (Row Bool)
-  rows_in c = bit_rows (at_least_one (slice_index c.weights (slot_of c.history c.node)))
+-- the slot of a context among so many: its own, if they are as many as contexts of one byte; else the highest 22 bits of a product
+abbrev pub slot_of : (slots history node : ℕ) → ℕ
+slot_of slots history node =
+    if nat_eq slots 65536 then history * 256 + node else (history * 256 + node) * 11400714819323198485 % 2 ^ 64 / 2 ^ 42
 
-  -- what is known after one bit more
-  abbrev pub contexts_after : (modulus : ℕ) → Contexts → Bool → Contexts
-  contexts_after modulus c bit = record {
-    weights =
-        slice_set c.weights (slot_of c.history c.node) (moved bit (slice_index c.weights (slot_of c.history c.node)));
-    history = history_after modulus c.history c.node bit;
-    node = node_after c.node bit;
-  }
+-- the rows of the next bit
+abbrev pub rows_in : (slots : ℕ) → Contexts → List (Row Bool)
+rows_in slots c = bit_rows (at_least_one (slice_index c.weights (slot_of slots c.history c.node)))
 
--- the slot of a context of one byte: there is one for each
-abbrev pub own_slot : ℕ → ℕ → ℕ
-own_slot history node = history * 256 + node
-
--- the slot of a context of several bytes: the highest 22 bits of a product
-abbrev pub hashed_slot : ℕ → ℕ → ℕ
-hashed_slot history node = (history * 256 + node) * 11400714819323198485 % 2 ^ 64 / 2 ^ 42
+-- what is known after one bit more
+abbrev pub contexts_after : (slots modulus : ℕ) → Contexts → Bool → Contexts
+contexts_after slots modulus c bit = record {
+  weights =
+      slice_set c.weights (slot_of slots c.history c.node) (moved bit (slice_index c.weights (slot_of slots c.history c.node)));
+  history = history_after modulus c.history c.node bit;
+  node = node_after c.node bit;
+}
 
 -- the weights in so many slots in which nothing was learned: both bits are as likely
 unfoldable pub even_weights : ℕ → List ℕ

@@ -16,8 +16,8 @@ pub record MixerState : Type 0 where
   pub weights : List (List ℕ)
   pub past : PastState
 
-abbrev pub state_of : (contexts : List ℕ) (groups : ℕ) (slots : List ℕ) (weights : List (List ℕ)) (past : PastState) → MixerState
-state_of contexts groups slots weights past = record { contexts = contexts; groups = groups; slots = slots; weights = weights; past = past }
+abbrev pub mixer_state : (contexts : List ℕ) (groups : ℕ) (slots : List ℕ) (weights : List (List ℕ)) (past : PastState) → MixerState
+mixer_state contexts groups slots weights past = record { contexts = contexts; groups = groups; slots = slots; weights = weights; past = past }
 
 -- the first slot of each context
 abbrev pub places_in : (groups : ℕ) → PastState → (contexts : List ℕ) → List ℕ

@@ -1,15 +1,13 @@
 -- Symbols that are predicted: each is coded in a state, by the rows that the state predicts, and leads to the next state.
-use Rattle.std.specs.Prelude.{◌≡◌, ℕ, ◌*◌, ◌^◌, ◌<◌, All, Bool, List, ◌∷◌, ◌++◌, fold, length, Option, Some, None, Result, Err}
+use Rattle.std.specs.Prelude.{◌≡◌, ℕ, ◌*◌, ◌^◌, ◌<◌, ◌⊎◌, All, Bool, List, [], ◌∷◌, ◌++◌, fold, length, Option, Some, None, Result, Err}
 use Rattle.constriction_model.specs.Coding.{InTurn}
 use Rattle.constriction_words.specs.declared.CoderError.{CoderError}
 use Rattle.constriction_words.specs.declared.CoderError.TheVariants.{Frontend, Backend}
 use Rattle.constriction_model.specs.Rows.{Row, RowsTile, entry_of}
-use Rattle.constriction_coders.specs.Intervals.{Held, IsRead, IsAboveAll, unit_of}
+use Rattle.constriction_coders.specs.Intervals.{Held, IsRead, unit_of}
 use Rattle.constriction_coders.specs.Places.{placed, entry_at, IsDecodedAt}
 use Rattle.constriction_coders.specs.Spans.{Span}
 use Rattle.constriction_coders.specs.Steps.{Content, IsDecoded, IsEncoded}
-use Rattle.constriction_coders.specs.declared.queue.range_decoder.DecoderFrontendError.{DecoderFrontendError}
-use Rattle.constriction_coders.specs.declared.queue.range_decoder.DecoderFrontendError.TheVariants as decoding
 use Rattle.constriction_adaptive.specs.declared.error.EncoderFrontendError.{EncoderFrontendError}
 use Rattle.constriction_adaptive.specs.declared.error.EncoderFrontendError.TheVariants as encoding
 
@@ -17,21 +15,26 @@ use Rattle.constriction_adaptive.specs.declared.error.EncoderFrontendError.TheVa
 
 module _ {State Symbol : Type 0} (rows : State → List (Row Symbol)) where
   -- the entry of a symbol by the rows of a state
-  abbrev pub entry_in : (Symbol → Symbol → Bool) → State → Symbol → Option (ℕ × ℕ)
-  entry_in eq state = entry_of eq (rows state)
+  abbrev pub predicted_entry : (Symbol → Symbol → Bool) → State → Symbol → Option (ℕ × ℕ)
+  predicted_entry eq state = entry_of eq (rows state)
 
   -- the rows of the states in which these symbols are coded tile the quantiles
   abbrev pub AllTile : (State → Symbol → State) → (precision : ℕ) → State → List Symbol → Type 0
   AllTile next precision first symbols = All (λ place. RowsTile 32 precision (rows place.0)) (placed next first symbols)
 
+  -- a symbol is decoded by the rows of its state
+  abbrev pub IsDecodedIn : {C : Type 0} → (Symbol → Symbol → Bool) → (precision : ℕ) → (List (Row Symbol) → Symbol → C → C → Type 0)
+      → State × Symbol → C → C → Type 0
+  IsDecodedIn eq = IsDecodedAt eq (predicted_entry eq) rows
+
   module _ (Stands : Symbol → Symbol → Type 0) (eq : Symbol → Symbol → Bool) (precision : ℕ) where
-    -- a symbol is decoded from a range coder by the rows of its state
+    -- the same from a range coder
     abbrev pub IsReadIn : {S E : Type 0} → (S → Result (Option ℕ) E → S → Type 0) → State × Symbol → Held S → Held S → Type 0
-    IsReadIn gives = IsDecodedAt eq (entry_in eq) rows precision (λ own. IsRead Stands own gives precision)
+    IsReadIn gives = IsDecodedIn eq precision (λ own. IsRead Stands own gives precision)
 
     -- the same from a stack
     abbrev pub IsTakenIn : State × Symbol → Content → Content → Type 0
-    IsTakenIn = IsDecodedAt eq (entry_in eq) rows precision (λ own. IsDecoded Stands own precision)
+    IsTakenIn = IsDecodedIn eq precision (λ own. IsDecoded Stands own precision)
 
 -- ---- why a symbol was not coded
 
@@ -43,13 +46,11 @@ IsEncodingFault entry precision (Frontend encoding.OutOfMemory) place s = Unit {
 IsEncodingFault entry precision (Backend error) place s =
     (left weight : ℕ) × (entry place ≡ Some (left, weight)) × (unit_of precision s.size * weight < 2 ^ 32)
 
--- The point of a range decoder lies above all parts; memory was refused, to the symbol or to learn it; or a read failed, which alone
--- changes the source.
-abbrev pub IsReadingFault : {S E : Type 0} → (S → Result (Option ℕ) E → S → Type 0) → (precision : ℕ) → CoderError DecoderFrontendError E
-    → Held S → S → Type 0
-IsReadingFault gives precision (Frontend decoding.InvalidData) at left = IsAboveAll precision at.held × (left ≡ at.source)
-IsReadingFault gives precision (Frontend decoding.OutOfMemory) at left = left ≡ at.source
-IsReadingFault gives precision (Backend error) at left = gives at.source (Err error) left
+-- why the next symbol was not decoded, and what that left: memory to learn it was refused, which leaves the coder; or the coder tells why
+abbrev pub IsNotDecoded : {Coder Symbol Fault E : Type 0} → (IsRefusal : Fault → Type 0)
+    → (Tells : Coder → Result Symbol (CoderError Fault E) → Coder → Type 0) → CoderError Fault E → (old new : Coder) → Type 0
+IsNotDecoded {Fault = Fault} IsRefusal Tells error old new =
+    ((fault : Fault) × IsRefusal fault × (error ≡ Frontend fault) × (new ≡ old)) ⊎ Tells old (Err error) new
 
 -- ---- several symbols
 
@@ -60,7 +61,7 @@ module _ {State Symbol C : Type 0} (next : State → Symbol → State) (Step : S
     pub learned : last ≡ fold next first symbols
 
   -- the symbols before one were coded and learned, and that one was neither
-  pub record EncodingStops (Fault : State × Symbol → C → Type 0) (symbols : List Symbol) (first : State) (old : C) (last : State) (new : C)
+  pub record AdaptiveEncodingStops (Fault : State × Symbol → C → Type 0) (symbols : List Symbol) (first : State) (old : C) (last : State) (new : C)
       : Type 0 where
     pub done : List Symbol
     pub symbol : Symbol
@@ -69,13 +70,15 @@ module _ {State Symbol C : Type 0} (next : State → Symbol → State) (Step : S
     pub coded : AreCoded done first old last new
     pub fault : Fault (last, symbol) new
 
-  -- fewer than `count` symbols were coded and learned, and the next one was neither
-  pub record DecodingStops (Fault : C → C → Type 0) (count : ℕ) (first : State) (old : C) (last : State) (new : C) : Type 0 where
+  -- fewer than `count` symbols were decoded and learned, and the next one was neither; or none was, because memory for all was refused
+  pub record AdaptiveDecodingStops {Coder Fault E : Type 0} (held : Coder → C) (IsRefusal : Fault → Type 0)
+      (Tells : State → Coder → Result Symbol (CoderError Fault E) → Coder → Type 0) (count : ℕ) (error : CoderError Fault E)
+      (first : State) (old : C) (last : State) (new : Coder) : Type 0 where
     pub done : List Symbol
-    pub reached : C
-    pub coded : AreCoded done first old last reached
-    pub fewer : length done < count
-    pub fault : Fault reached new
+    pub reached : Coder
+    pub coded : AreCoded done first old last (held reached)
+    pub why : ((length done < count) × IsNotDecoded IsRefusal (Tells last) error reached new)
+        ⊎ ((done ≡ []) × (new ≡ reached) × (fault : Fault) × IsRefusal fault × (error ≡ Frontend fault))
 
 -- some of the symbols were learned, from the first one on
 abbrev pub FirstAreLearned : {State Symbol : Type 0} → (State → Symbol → State) → List Symbol → State → State → Type 0

@@ -1,19 +1,23 @@
 //! Bytes by a predictor of their bits, in a range coder.
 
 ghost use Rattle.std.specs.Prelude.{◌≡◌, ◌≢◌, ◌++◌, ◌^◌, ◌<◌, ℕ, Bool, List, None, Err, All, IfOk, OnOk, IfErr, length, fold};
+ghost use Rattle.std.specs.Allocator.{alloc_error};
 ghost use Rattle.std.specs.Bool.{beq};
 ghost use Rattle.constriction_coders.specs.Places.{entry_at, IsMessageFrom};
 ghost use Rattle.constriction_coders.specs.RangeDecoder.{held_by};
 ghost use Rattle.constriction_coders.specs.Spans.{IsNarrowed};
 ghost use Rattle.constriction_adaptive.specs.Bytes.{all_bits, bits_of, AreReadFrom};
-ghost use Rattle.constriction_adaptive.specs.Predicted.{entry_in, AllTile, AreCoded, DecodingStops, EncodingStops, IsEncodingFault, IsReadIn, IsReadingFault};
+ghost use Rattle.constriction_adaptive.specs.Predicted.{predicted_entry, AllTile, AreCoded, AdaptiveDecodingStops, AdaptiveEncodingStops, IsEncodingFault, IsReadIn};
 
 use crate::bit::Bit;
+use crate::decoding::decode_next;
 use crate::error::EncoderFrontendError;
 use crate::predictor::Predictor;
-use crate::queue::{decode_next, encode_adaptively};
+use crate::queue::encode_adaptively;
 use constriction_backends::{Cursor, ReadWords};
 use constriction_coders::queue::{DecoderFrontendError, RangeDecoder, RangeEncoder};
+use constriction_coders::{Code, Decode};
+use constriction_model::DecoderModel;
 use constriction_words::{CoderError, Queue};
 use std::alloc::{AllocError, Global};
 
@@ -39,7 +43,7 @@ fn bits_of_byte(byte: u8) -> [bool; 8]
 fn bits_have_entries<P>(predictor: &P)
 where
     P: Predictor<16, Symbol = bool, Model = Bit>,
-    ensures { (bit : Bool) → entry_in P.rows beq (P.state predictor.now) bit ≢ None }
+    ensures { (bit : Bool) → predicted_entry P.rows beq (P.state predictor.now) bit ≢ None }
 {
     let _model = predictor.model();
 }
@@ -57,12 +61,12 @@ pub fn encode_byte<P>(
 where
     P: Predictor<16, Symbol = bool, Model = Bit>,
     ensures ok { OnOk result
-        (AreCoded P.next (λ s. IsNarrowed (entry_at (entry_in P.rows beq) s) 16) (bits_of byte)
-        (P.state predictor.old) encoder.old (P.state predictor.new) encoder.new) }
+        (AreCoded P.next (λ s. IsNarrowed (entry_at (predicted_entry P.rows beq) s) 16)
+        (bits_of byte) (P.state predictor.old) encoder.old (P.state predictor.new) encoder.new) }
     ensures tile { OnOk result (AllTile P.rows P.next 16 (P.state predictor.old) (bits_of byte)) }
     ensures err { IfErr result (λ error.
-        EncodingStops P.next (λ s. IsNarrowed (entry_at (entry_in P.rows beq) s) 16)
-        (IsEncodingFault (entry_at (entry_in P.rows beq)) 16 error) (bits_of byte)
+        AdaptiveEncodingStops P.next (λ s. IsNarrowed (entry_at (predicted_entry P.rows beq) s) 16)
+        (IsEncodingFault (entry_at (predicted_entry P.rows beq)) 16 error) (bits_of byte)
         (P.state predictor.old) encoder.old (P.state predictor.new) encoder.new) }
     ensures possible { result ≢ Err (CoderError.Frontend EncoderFrontendError.ImpossibleSymbol) }
 {
@@ -78,8 +82,8 @@ where
 
 /// Decodes the bits of a byte.
 ///
-/// It fails as [`decode_next`](crate::queue::decode_next) does. The bits before the one that was
-/// not decoded stay decoded and learned.
+/// It fails as [`decode_next`] does. The bits before the one that was not decoded stay decoded and
+/// learned.
 pub fn decode_byte<P, Source>(
     predictor: &mut P,
     decoder: &mut RangeDecoder<Source>,
@@ -94,10 +98,12 @@ where
         (P.state predictor.old) (held_by decoder.old) (P.state predictor.new)
         (held_by decoder.new)) }
     ensures err { IfErr result (λ error.
-        DecodingStops P.next (IsReadIn P.rows (λ s t. t ≡ s) beq 16 Source.read_gives)
-        (λ reached new. IsReadingFault Source.read_gives 16 error reached new.source
-        × (new.held ≡ reached.held)) 8 (P.state predictor.old) (held_by decoder.old)
-        (P.state predictor.new) (held_by decoder.new)) }
+        AdaptiveDecodingStops P.next (IsReadIn P.rows (λ s t. t ≡ s) beq 16 Source.read_gives)
+        ⟦<RangeDecoder<Source> as Code>⟧.held
+        (⟦<DecoderFrontendError as From<AllocError>>⟧.from_gives alloc_error)
+        (λ state. ⟦<RangeDecoder<Source> as Decode<16>>⟧.decodes Bool
+        ⟦<Bit as DecoderModel<16>>⟧.may_refuse (P.rows state)) 8 error (P.state predictor.old)
+        (held_by decoder.old) (P.state predictor.new) decoder.new) }
 {
     let mut byte = 0u8;
     for done in 0..8usize {
@@ -121,7 +127,7 @@ pub fn encode_bytes<P>(
 ) -> Result<Vec<u32>, AllocError>
 where
     P: Predictor<16, Symbol = bool, Model = Bit>,
-    ensures ok { IfOk result (λ words. IsMessageFrom (entry_in P.rows beq) P.next 16
+    ensures ok { IfOk result (λ words. IsMessageFrom (predicted_entry P.rows beq) P.next 16
         (P.state predictor.old) (all_bits bytes.now) words.items) }
     ensures read { IfOk result (λ words.
         AreReadFrom P.rows P.next (P.state predictor.old) bytes.now words.items) }
@@ -226,11 +232,11 @@ pub fn message_is_read<P>()
 where
     P: Predictor<16, Symbol = bool, Model = Bit>,
     ensures back { (first : P.State) (bytes answers words more : List ℕ) → All (λ b. b < 256) bytes
-        → IsMessageFrom (entry_in P.rows beq) P.next 16 first (all_bits bytes) words
+        → IsMessageFrom (predicted_entry P.rows beq) P.next 16 first (all_bits bytes) words
         → All (λ w. w < 2 ^ 32) more → AreReadFrom P.rows P.next first answers (words ++ more)
         → length answers ≡ length bytes → answers ≡ bytes }
     ensures whatever_follows { (first : P.State) (bytes words more : List ℕ)
         → AreReadFrom P.rows P.next first bytes words
-        → IsMessageFrom (entry_in P.rows beq) P.next 16 first (all_bits bytes) words
+        → IsMessageFrom (predicted_entry P.rows beq) P.next 16 first (all_bits bytes) words
         → All (λ w. w < 2 ^ 32) more → AreReadFrom P.rows P.next first bytes (words ++ more) }
 {}

@@ -8,7 +8,7 @@ mod tables;
 ghost use Rattle.std.specs.Prelude.{◌≡◌, ◌+◌, ◌*◌, ◌<◌, ◌≤◌, ◌^◌, ℕ, IfOk, [], length, map, slice_index, slice_index_or, slice_set};
 ghost use Rattle.constriction_adaptive.specs.Bit.{at_least_one, bit_rows};
 ghost use Rattle.constriction_adaptive.specs.lemmas.Bit.{next-same};
-ghost use Rattle.constriction_adaptive.specs.Mixer.{MixerState, even_rows, mixer_after, mixer_begun, mixer_rows, places_in, places_of, predicted, state_of, strengths_of};
+ghost use Rattle.constriction_adaptive.specs.Mixer.{MixerState, even_rows, mixer_after, mixer_begun, mixer_rows, places_in, places_of, predicted, mixer_state, strengths_of};
 ghost use Rattle.constriction_adaptive.specs.Mixing.{error_of, mixed, squash, strength, weights_after};
 ghost use Rattle.constriction_adaptive.specs.Past.{past_after};
 
@@ -45,11 +45,11 @@ pub struct Mixer<const N: usize> {
     ghost seen: { (k : ℕ) → k < N → slice_index contexts k ≤ 8 },
     ghost inside: { (k : ℕ) → k < N → slice_index places k + 16 ≤ 16 * groups },
     ghost places_are: { places
-        ≡ places_of (state_of contexts groups slots.items weights.items past) },
+        ≡ places_of (mixer_state contexts groups slots.items weights.items past) },
     ghost strengths_are: { strengths
-        ≡ strengths_of (state_of contexts groups slots.items weights.items past) },
+        ≡ strengths_of (mixer_state contexts groups slots.items weights.items past) },
     ghost weight_is: { weight
-        ≡ predicted (state_of contexts groups slots.items weights.items past) },
+        ≡ predicted (mixer_state contexts groups slots.items weights.items past) },
     ghost is: { ⟦<Bit as EntropyModel<16>>⟧.rows current ≡ bit_rows (at_least_one weight) },
 }
 
@@ -191,7 +191,7 @@ impl<const N: usize> Predictor<16> for Mixer<N> {
 
     ghost State = { MixerState };
 
-    ghost state = { λ p. state_of p.contexts p.groups p.slots.items p.weights.items p.past };
+    ghost state = { λ p. mixer_state p.contexts p.groups p.slots.items p.weights.items p.past };
 
     ghost rows = { mixer_rows };
 

@@ -4,8 +4,6 @@
 //! last, and then encoded from the last to the first: decoding gives and predicts them in order.
 
 mod entries;
-mod next;
 mod runs;
 
-pub use self::next::decode_next;
-pub use self::runs::{decode_adaptively, encode_adaptively, symbols_come_back, there_and_back};
+pub use self::runs::{encode_adaptively, symbols_come_back, there_and_back};

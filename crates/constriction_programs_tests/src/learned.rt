@@ -12,7 +12,7 @@ use constriction::stream::model::{ContiguousCategoricalEntropyModel, EntropyMode
 use constriction_adaptive::bytes::{decode_byte, decode_bytes, encode_byte, encode_bytes};
 use constriction_adaptive::{
     AdaptiveCategorical, Bit, EncoderFrontendError, HashedContexts, Mixer, OrderOne, Predictor,
-    queue, stack,
+    decode_adaptively, decode_next, queue, stack,
 };
 use constriction_coders::queue::{DecoderFrontendError, RangeDecoder, RangeEncoder};
 use constriction_coders::stack::AnsCoder;
@@ -175,7 +175,7 @@ fn letters_are_coded_one_at_a_time(rt: HostRuntime) {
     };
     encoding.room = 2;
     for letter in [2, 0] {
-        match queue::decode_next(&mut encoding, &mut decoder) {
+        match decode_next(&mut encoding, &mut decoder) {
             Ok(decoded) => same(&rt, decoded, letter),
             Err(_) => panic!(rt; "a letter was not decoded"),
         }
@@ -194,10 +194,10 @@ fn a_letter_is_taken_from_a_stack(rt: HostRuntime) {
     let mut coder = AnsCoder::new(alloc);
     let encoded = stack::encode_adaptively(alloc, &mut encoding, &[1], &mut coder);
     same(&rt, encoded.is_ok(), true);
-    let refused = stack::decode_next(&mut encoding, &mut coder);
+    let refused = decode_next(&mut encoding, &mut coder);
     same(&rt, refused.is_err(), true);
     encoding.room = 1;
-    match stack::decode_next(&mut encoding, &mut coder) {
+    match decode_next(&mut encoding, &mut coder) {
         Ok(decoded) => same(&rt, decoded, 1),
         Err(_) => panic!(rt; "the letter was not decoded"),
     }
@@ -260,10 +260,10 @@ fn want_of_memory_leaves_the_symbols_before(rt: HostRuntime) {
     else {
         panic!(rt; "a read failed");
     };
-    let refused = queue::decode_adaptively(alloc, &mut decoding, 7, &mut decoder);
+    let refused = decode_adaptively(alloc, &mut decoding, 7, &mut decoder);
     same(&rt, refused.is_err(), true);
     decoding.room = 4;
-    match queue::decode_adaptively(alloc, &mut decoding, 4, &mut decoder) {
+    match decode_adaptively(alloc, &mut decoding, 4, &mut decoder) {
         Ok(answers) => holds(&rt, &answers, &SYMBOLS[3..]),
         Err(_) => panic!(rt; "the last symbols were not decoded"),
     }

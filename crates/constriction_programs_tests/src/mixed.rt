@@ -1,13 +1,13 @@
 //! What callers who code bytes by a mixer, or by the byte before, learn from contracts alone. A
 //! body that answers otherwise does not meet these contracts.
 
-ghost use Rattle.std.specs.Prelude.{◌≡◌, ◌≢◌, [], ◌∷◌, ℕ, List, Err, IfOk, OnOk, fold, length};
+ghost use Rattle.std.specs.Prelude.{◌≡◌, ◌≢◌, ◌^◌, [], ◌∷◌, ℕ, List, Err, IfOk, OnOk, fold, length};
 ghost use Rattle.std.specs.Bool.{beq};
 ghost use Rattle.constriction_coders.specs.Places.{IsMessageFrom};
 ghost use Rattle.constriction_adaptive.specs.Bytes.{all_bits, AreReadFrom};
-ghost use Rattle.constriction_adaptive.specs.Contexts.{contexts_after, own_slot};
+ghost use Rattle.constriction_adaptive.specs.Contexts.{contexts_after};
 ghost use Rattle.constriction_adaptive.specs.Mixer.{mixer_after, mixer_begun, mixer_rows};
-ghost use Rattle.constriction_adaptive.specs.Predicted.{entry_in};
+ghost use Rattle.constriction_adaptive.specs.Predicted.{predicted_entry};
 
 use crate::checks::{holds, same};
 use constriction::CoderError;
@@ -21,9 +21,10 @@ use std::alloc::{AllocError, Global};
 use std::convert::Infallible;
 
 /// The words of bytes, from which these bytes are read.
-fn encoded(alloc: Global, bytes: &[u8]) -> Result<Vec<u32>, AllocError>
-    ensures message { IfOk result (λ words. IsMessageFrom (entry_in mixer_rows beq) mixer_after 16
-        (mixer_begun (1 ∷ 3 ∷ 0 ∷ []) 262144 4194304 6) (all_bits bytes.now) words.items) }
+fn encoded_by_a_mixer(alloc: Global, bytes: &[u8]) -> Result<Vec<u32>, AllocError>
+    ensures message { IfOk result (λ words. IsMessageFrom (predicted_entry mixer_rows beq)
+        mixer_after 16 (mixer_begun (1 ∷ 3 ∷ 0 ∷ []) 262144 4194304 6) (all_bits bytes.now)
+        words.items) }
     ensures read { IfOk result (λ words. AreReadFrom mixer_rows mixer_after
         (mixer_begun (1 ∷ 3 ∷ 0 ∷ []) 262144 4194304 6) bytes.now words.items) }
 {
@@ -32,7 +33,7 @@ fn encoded(alloc: Global, bytes: &[u8]) -> Result<Vec<u32>, AllocError>
 }
 
 /// The bytes that are read from words.
-fn decoded(
+fn decoded_by_a_mixer(
     alloc: Global,
     count: usize,
     words: Vec<u32>,
@@ -56,7 +57,7 @@ fn decoded(
 }
 
 /// Encodes bytes and decodes as many. It fails only if memory is refused.
-fn there_and_back(
+fn by_a_mixer(
     alloc: Global,
     bytes: &[u8],
 ) -> Result<Vec<u8>, CoderError<DecoderFrontendError, Infallible>>
@@ -64,10 +65,10 @@ fn there_and_back(
     ensures valid { result ≢ Err (CoderError.Frontend DecoderFrontendError.InvalidData) }
 {
     bytes_are_read_once::<Mixer<3>>();
-    let Ok(words) = encoded(alloc, bytes) else {
+    let Ok(words) = encoded_by_a_mixer(alloc, bytes) else {
         return Err(CoderError::Frontend(DecoderFrontendError::OutOfMemory));
     };
-    decoded(alloc, bytes.len(), words)
+    decoded_by_a_mixer(alloc, bytes.len(), words)
 }
 
 /// Encodes bytes and decodes as many, by the byte before, in one call. Both predictors learn all
@@ -82,7 +83,7 @@ fn by_the_byte_before(
         ≡ ⟦<OrderOne as Predictor<16>>⟧.state encoding.old }
     ensures back { IfOk result (λ again. again.items ≡ bytes.now) }
     ensures learned { OnOk result
-        (⟦<OrderOne as Predictor<16>>⟧.state encoding.new ≡ fold (contexts_after own_slot 256)
+        (⟦<OrderOne as Predictor<16>>⟧.state encoding.new ≡ fold (contexts_after 65536 (256 ^ 1))
         (⟦<OrderOne as Predictor<16>>⟧.state encoding.old) (all_bits bytes.now)) }
     ensures one_state { OnOk result (⟦<OrderOne as Predictor<16>>⟧.state decoding.new
         ≡ ⟦<OrderOne as Predictor<16>>⟧.state encoding.new) }
@@ -94,7 +95,7 @@ fn by_the_byte_before(
 fn bytes_come_back_by_a_mixer_of_three_contexts(rt: HostRuntime) {
     let alloc = rt.alloc();
     let text = b"abcabcabcabd";
-    match there_and_back(alloc, text) {
+    match by_a_mixer(alloc, text) {
         Ok(answers) => holds(&rt, &answers, text),
         Err(_) => panic!(rt; "nothing came back"),
     }

@@ -5,11 +5,12 @@ ghost use Rattle.std.specs.List.{AllZip};
 ghost use Rattle.constriction_model.specs.Coding.{StandsForEqual};
 ghost use Rattle.constriction_coders.specs.Places.{placed, entry_at, IsMessageFrom};
 ghost use Rattle.constriction_coders.specs.RangeLaws.{MessageOnce, RangeMessageComesBack};
-ghost use Rattle.constriction_adaptive.specs.Predicted.{entry_in, FirstAreLearned, IsReadIn, StopsPredicting};
+ghost use Rattle.constriction_adaptive.specs.Predicted.{predicted_entry, FirstAreLearned, IsReadIn, StopsPredicting};
 
+use crate::decoding::decode_adaptively;
 use crate::error::EncoderFrontendError;
 use crate::predictor::Predictor;
-use crate::queue::runs::{decode_adaptively, encode_adaptively};
+use crate::queue::encoding::encode_adaptively;
 use constriction_backends::{Cursor, ReadWords};
 use constriction_coders::laws::MessageError;
 use constriction_coders::queue::{DecoderFrontendError, RangeDecoder, RangeEncoder};
@@ -21,7 +22,7 @@ use std::convert::Infallible;
 pub fn one_message_from<P, const PRECISION: usize>()
 where
     P: Predictor<PRECISION>,
-    ensures { MessageOnce (entry_at (entry_in P.rows P.Model.symbol_eq)) PRECISION }
+    ensures { MessageOnce (entry_at (predicted_entry P.rows P.Model.symbol_eq)) PRECISION }
 {}
 
 /// What is encoded from a state on comes back to a decoder whose predictor begins in that state,
@@ -32,8 +33,9 @@ where
     P: Predictor<PRECISION>,
     Source: ReadWords<u32, Queue>,
     ensures { (first : P.State)
-        → RangeMessageComesBack (placed P.next first) (entry_at (entry_in P.rows P.Model.symbol_eq))
-        PRECISION (IsReadIn P.rows P.Model.stands_for P.Model.symbol_eq PRECISION Source.read_gives)
+        → RangeMessageComesBack (placed P.next first)
+        (entry_at (predicted_entry P.rows P.Model.symbol_eq)) PRECISION
+        (IsReadIn P.rows P.Model.stands_for P.Model.symbol_eq PRECISION Source.read_gives)
         Source.tells_upcoming (StandsForEqual P.Model.stands_for P.Model.symbol_eq) }
 {
     let _model = predictor.model();
@@ -50,12 +52,13 @@ pub fn encode_message<P, const PRECISION: usize>(
 ) -> Result<Vec<u32>, CoderError<EncoderFrontendError, AllocError>>
 where
     P: Predictor<PRECISION>,
-    ensures ok { IfOk result (λ words. IsMessageFrom (entry_in P.rows P.Model.symbol_eq) P.next
-        PRECISION (P.state predictor.old) symbols.now words.items) }
+    ensures ok { IfOk result (λ words.
+        IsMessageFrom (predicted_entry P.rows P.Model.symbol_eq) P.next PRECISION
+        (P.state predictor.old) symbols.now words.items) }
     ensures learned { OnOk result
         (P.state predictor.new ≡ fold P.next (P.state predictor.old) symbols.now) }
     ensures err { (error : _) → result ≡ Err (CoderError.Frontend error)
-        → StopsPredicting P.next (entry_in P.rows P.Model.symbol_eq) symbols.now error
+        → StopsPredicting P.next (predicted_entry P.rows P.Model.symbol_eq) symbols.now error
         (P.state predictor.old) (P.state predictor.new) }
     ensures refused { (error : _) → result ≡ Err (CoderError.Backend error)
         → FirstAreLearned P.next symbols.now (P.state predictor.old) (P.state predictor.new) }
@@ -87,15 +90,15 @@ where
     Source: ReadWords<u32, Queue> + Drop,
     requires { Source.can_read source }
     ensures back { IfOk result (λ answers. (symbols : List P.Symbol) (words more : List ℕ)
-        → length symbols ≡ count → IsMessageFrom (entry_in P.rows P.Model.symbol_eq) P.next
+        → length symbols ≡ count → IsMessageFrom (predicted_entry P.rows P.Model.symbol_eq) P.next
         PRECISION (P.state predictor.old) symbols words → All (λ w. w < 2 ^ 32) more
         → Source.tells_upcoming source (words ++ more)
         → AllZip (StandsForEqual P.Model.stands_for P.Model.symbol_eq) symbols answers.items
         × (P.state predictor.new ≡ fold P.next (P.state predictor.old) symbols)) }
     ensures valid { result ≡ Err (CoderError.Frontend DecoderFrontendError.InvalidData)
         → (symbols : List P.Symbol) (words more : List ℕ) → length symbols ≡ count → IsMessageFrom
-        (entry_in P.rows P.Model.symbol_eq) P.next PRECISION (P.state predictor.old) symbols words
-        → All (λ w. w < 2 ^ 32) more → ¬ (Source.tells_upcoming source (words ++ more)) }
+        (predicted_entry P.rows P.Model.symbol_eq) P.next PRECISION (P.state predictor.old) symbols
+        words → All (λ w. w < 2 ^ 32) more → ¬ (Source.tells_upcoming source (words ++ more)) }
 {
     symbols_come_back::<P, Source, PRECISION>(predictor);
     let mut decoder = match RangeDecoder::from_compressed(source) {
@@ -134,7 +137,7 @@ where
     ensures valid { result
         ≢ Err (MessageError.Decoding (CoderError.Frontend DecoderFrontendError.InvalidData)) }
     ensures err { (error : _) → result ≡ Err (MessageError.Encoding (CoderError.Frontend error))
-        → StopsPredicting P.next (entry_in P.rows P.Model.symbol_eq) symbols.now error
+        → StopsPredicting P.next (predicted_entry P.rows P.Model.symbol_eq) symbols.now error
         (P.state encoding.old) (P.state encoding.new) }
     ensures refused { (error : _) → result ≡ Err (MessageError.Encoding (CoderError.Backend error))
         → FirstAreLearned P.next symbols.now (P.state encoding.old) (P.state encoding.new) }

@@ -5,7 +5,7 @@ ghost use Rattle.std.specs.List.{AllZip};
 ghost use Rattle.constriction_model.specs.Rows.{entry_of};
 ghost use Rattle.constriction_coders.specs.Places.{placed, entry_at};
 ghost use Rattle.constriction_adaptive.specs.Entries.{IsEntryAt};
-ghost use Rattle.constriction_adaptive.specs.Predicted.{entry_in, StopsPredicting};
+ghost use Rattle.constriction_adaptive.specs.Predicted.{predicted_entry, StopsPredicting};
 
 use crate::error::EncoderFrontendError;
 use crate::predictor::Predictor;
@@ -16,7 +16,7 @@ use std::alloc::Global;
 pub(crate) type Entry = (u32, u32);
 
 /// The entry of a symbol.
-fn entry_of_symbol<E, const PRECISION: usize>(model: &E, symbol: &E::Symbol) -> Option<Entry>
+fn entry_by_model<E, const PRECISION: usize>(model: &E, symbol: &E::Symbol) -> Option<Entry>
 where
     E: EncoderModel<PRECISION, Probability = u32>,
     ensures known { IfSome result (λ entry.
@@ -30,25 +30,26 @@ where
 }
 
 /// Predicts a symbol, and learns it. The answer is its entry.
-pub(crate) fn predicted<P, const PRECISION: usize>(
+fn predict_and_learn<P, const PRECISION: usize>(
     predictor: &mut P,
     symbol: &P::Symbol,
 ) -> Result<Entry, EncoderFrontendError>
 where
     P: Predictor<PRECISION>,
     ensures ok { IfOk result (λ entry. IsEntryAt PRECISION
-        (entry_at (entry_in P.rows P.Model.symbol_eq)) (P.state predictor.old, symbol.now) entry) }
+        (entry_at (predicted_entry P.rows P.Model.symbol_eq)) (P.state predictor.old, symbol.now)
+        entry) }
     ensures learned { IfOk result (λ _.
         P.state predictor.new ≡ P.next (P.state predictor.old) symbol.now) }
     ensures impossible { result ≡ Err EncoderFrontendError.ImpossibleSymbol
-        → entry_in P.rows P.Model.symbol_eq (P.state predictor.old) symbol.now ≡ None }
+        → predicted_entry P.rows P.Model.symbol_eq (P.state predictor.old) symbol.now ≡ None }
     ensures unlearned { OnErr result (P.state predictor.new ≡ P.state predictor.old) }
 {
     match predictor.reserve() {
         Ok(()) => {}
         Err(_) => return Err(EncoderFrontendError::OutOfMemory),
     }
-    let Some(entry) = entry_of_symbol(predictor.model(), symbol) else {
+    let Some(entry) = entry_by_model(predictor.model(), symbol) else {
         return Err(EncoderFrontendError::ImpossibleSymbol);
     };
     predictor.learn(symbol);
@@ -64,18 +65,19 @@ pub(crate) fn entries_of<P, const PRECISION: usize>(
 where
     P: Predictor<PRECISION>,
     ensures ok { IfOk result (λ entries.
-        AllZip (IsEntryAt PRECISION (entry_at (entry_in P.rows P.Model.symbol_eq)))
+        AllZip (IsEntryAt PRECISION (entry_at (predicted_entry P.rows P.Model.symbol_eq)))
         (placed P.next (P.state predictor.old) symbols.now) entries.items) }
     ensures learned { IfOk result (λ _.
         P.state predictor.new ≡ fold P.next (P.state predictor.old) symbols.now) }
-    ensures err { IfErr result (λ error. StopsPredicting P.next (entry_in P.rows P.Model.symbol_eq)
-        symbols.now error (P.state predictor.old) (P.state predictor.new)) }
+    ensures err { IfErr result (λ error.
+        StopsPredicting P.next (predicted_entry P.rows P.Model.symbol_eq) symbols.now error
+        (P.state predictor.old) (P.state predictor.new)) }
 {
     let Ok(mut entries) = Vec::with_capacity(alloc, symbols.len()) else {
         return Err(EncoderFrontendError::OutOfMemory);
     };
     for symbol in symbols {
-        match predicted(predictor, symbol) {
+        match predict_and_learn(predictor, symbol) {
             Ok(entry) => entries.push_reserved(entry),
             Err(error) => return Err(error),
         }

@@ -1,19 +1,18 @@
 //! Several symbols, and what comes back from a stack.
 
-ghost use Rattle.std.specs.Prelude.{◌≡◌, ◌⊎◌, Err, OnOk, IfOk, IfErr, fold, length};
-ghost use Rattle.std.specs.Allocator.{alloc_error};
+ghost use Rattle.std.specs.Prelude.{◌≡◌, Err, OnOk, IfOk, IfErr, fold};
 ghost use Rattle.std.specs.List.{AllZip};
 ghost use Rattle.constriction_model.specs.Coding.{StandsForEqual};
 ghost use Rattle.constriction_coders.specs.AnsCoder.{held_by};
 ghost use Rattle.constriction_coders.specs.Laws.{StackComesBack};
 ghost use Rattle.constriction_coders.specs.Places.{placed, entry_at};
-ghost use Rattle.constriction_adaptive.specs.Predicted.{entry_in, AreCoded, AreStacked, DecodingStops, IsTakenIn, StackingStops};
+ghost use Rattle.constriction_adaptive.specs.Predicted.{predicted_entry, AreStacked, IsTakenIn, StackingStops};
 
+use crate::decoding::decode_adaptively;
 use crate::error::EncoderFrontendError;
 use crate::predictor::Predictor;
 use crate::stack::entries::entries_of;
-use crate::stack::next::decode_next;
-use constriction_backends::{StackSource, WordStack};
+use constriction_backends::WordStack;
 use constriction_coders::laws::MessageError;
 use constriction_coders::stack::AnsCoder;
 use constriction_words::CoderError;
@@ -24,7 +23,7 @@ pub fn symbols_come_back<P, const PRECISION: usize>()
 where
     P: Predictor<PRECISION>,
     ensures { (first : P.State)
-        → StackComesBack (placed P.next first) (entry_at (entry_in P.rows P.Model.symbol_eq))
+        → StackComesBack (placed P.next first) (entry_at (predicted_entry P.rows P.Model.symbol_eq))
         PRECISION (IsTakenIn P.rows P.Model.stands_for P.Model.symbol_eq PRECISION)
         (StandsForEqual P.Model.stands_for P.Model.symbol_eq) }
 {}
@@ -45,13 +44,15 @@ where
     P: Predictor<PRECISION>,
     Backend: WordStack<u32>,
     ensures ok { OnOk result
-        (AreStacked P.next (entry_at (entry_in P.rows P.Model.symbol_eq)) PRECISION symbols.now
-        (P.state predictor.old) (held_by coder.old) (P.state predictor.new) (held_by coder.new)) }
+        (AreStacked P.next (entry_at (predicted_entry P.rows P.Model.symbol_eq)) PRECISION
+        symbols.now (P.state predictor.old) (held_by coder.old) (P.state predictor.new)
+        (held_by coder.new)) }
     ensures err { IfErr result (λ error.
-        StackingStops P.next (entry_in P.rows P.Model.symbol_eq) PRECISION symbols.now error
+        StackingStops P.next (predicted_entry P.rows P.Model.symbol_eq) PRECISION symbols.now error
         (P.state predictor.old) (held_by coder.old) (P.state predictor.new) (held_by coder.new)) }
 {
-    let model = predictor.model();
+    // It says that the precision fits.
+    let _model = predictor.model();
     let entries = match entries_of(alloc, predictor, symbols) {
         Ok(entries) => entries,
         Err(error) => return Err(CoderError::Frontend(error)),
@@ -65,47 +66,6 @@ where
         }
     }
     Ok(())
-}
-
-/// Decodes `count` symbols, the one on top first, each by the model that the predictor has for it.
-///
-/// Memory for all of them is asked for first: if `count` comes from outside, use
-/// [`decode_next`](crate::stack::decode_next). The symbols before one that is not decoded are
-/// dropped, but stay decoded and learned.
-pub fn decode_adaptively<P, Backend, const PRECISION: usize>(
-    alloc: Global,
-    predictor: &mut P,
-    count: usize,
-    coder: &mut AnsCoder<Backend>,
-) -> Result<Vec<P::Symbol>, CoderError<AllocError, Backend::ReadError>>
-where
-    P: Predictor<PRECISION>,
-    P::Symbol: Drop,
-    Backend: StackSource<u32>,
-    ensures ok { IfOk result (λ answers. AreCoded P.next
-        (IsTakenIn P.rows P.Model.stands_for P.Model.symbol_eq PRECISION) answers.items
-        (P.state predictor.old) (held_by coder.old) (P.state predictor.new) (held_by coder.new)) }
-    ensures count { IfOk result (λ answers. length answers.items ≡ count) }
-    ensures read { (error : _) → result ≡ Err (CoderError.Backend error)
-        → (reached : Backend) × Backend.read_gives reached (Err error) coder.new.words }
-    ensures err { IfErr result (λ error.
-        DecodingStops P.next (IsTakenIn P.rows P.Model.stands_for P.Model.symbol_eq PRECISION)
-        (λ reached new. new ≡ reached) count (P.state predictor.old) (held_by coder.old)
-        (P.state predictor.new) (held_by coder.new) ⊎ ((error ≡ CoderError.Frontend alloc_error)
-        × (P.state predictor.new ≡ P.state predictor.old)
-        × (held_by coder.new ≡ held_by coder.old))) }
-{
-    let mut answers = match Vec::with_capacity(alloc, count) {
-        Ok(answers) => answers,
-        Err(error) => return Err(CoderError::Frontend(error)),
-    };
-    for done in 0..count {
-        match decode_next(predictor, coder) {
-            Ok(symbol) => answers.push_reserved(symbol),
-            Err(error) => return Err(error),
-        }
-    }
-    Ok(answers)
 }
 
 /// Encodes the symbols and decodes as many. If both predictors begin in one state, the symbols come
@@ -135,8 +95,9 @@ where
     ensures one_state { OnOk result (P.state decoding.new ≡ P.state encoding.new) }
     ensures same { OnOk result (held_by coder.new ≡ held_by coder.old) }
     ensures err { (error : _) → result ≡ Err (MessageError.Encoding error)
-        → StackingStops P.next (entry_in P.rows P.Model.symbol_eq) PRECISION symbols.now error
-        (P.state encoding.old) (held_by coder.old) (P.state encoding.new) (held_by coder.new) }
+        → StackingStops P.next (predicted_entry P.rows P.Model.symbol_eq) PRECISION symbols.now
+        error (P.state encoding.old) (held_by coder.old) (P.state encoding.new)
+        (held_by coder.new) }
 {
     symbols_come_back::<P, PRECISION>();
     match encode_adaptively(alloc, encoding, symbols, coder) {

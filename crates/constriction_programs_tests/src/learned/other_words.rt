@@ -10,7 +10,7 @@ use constriction::backends::Cursor;
 use constriction::stream::model::{
     ContiguousCategoricalEntropyModel, DecoderModel, EncoderModel, EntropyModel,
 };
-use constriction_adaptive::{Bit, Predictor, queue, stack};
+use constriction_adaptive::{Bit, Predictor, decode_adaptively, queue, stack};
 use constriction_coders::queue::DecoderFrontendError;
 use constriction_coders::stack::AnsCoder;
 use std::alloc::AllocError;
@@ -86,7 +86,7 @@ fn a_stack_that_is_cut_or_damaged_gives_other_letters(rt: HostRuntime) {
         let Ok(mut coder) = AnsCoder::from_compressed(words) else {
             panic!(&rt; "the words were refused");
         };
-        match stack::decode_adaptively(alloc, &mut decoding, 7, &mut coder) {
+        match decode_adaptively(alloc, &mut decoding, 7, &mut coder) {
             Ok(answers) => holds(&rt, &answers, expected),
             Err(_) => panic!(&rt; "the letters were not decoded"),
         }

@@ -1,4 +1,4 @@
-use Rattle.constriction_adaptive.proofs.Reading.{read-once}
+use Rattle.constriction_adaptive.proofs.ReadOnce.{read-once}
 use Rattle.constriction_adaptive.proofs.bytes.bytes_are_read_once.Goals as goal
 
 pub returns : goal.returns

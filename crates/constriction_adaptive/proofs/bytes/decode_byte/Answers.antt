@@ -23,8 +23,8 @@ loop-done-preserved g c =
 pub returns-in-Err-clause-err : goal.returns-in-Err-clause-err
 returns-in-Err-clause-err g c =
     let so = c.loop-done.invariant.so_far in
-    decoding-stops g.P.Predictor.next (IsReadIn g.P.Predictor.rows (λ s t. t ≡ s) beq 16 g.Source.ReadWords.read_gives) _ 8 so.0
-    _ _ _ _ _ _ so.3 (omega (arith, so.1, c.loop-done-test.true)) (c.in-Err.ensures.fault, c.in-Err.ensures.same)
+    decoding-stops g.P.Predictor.next (IsReadIn g.P.Predictor.rows (λ s t. t ≡ s) beq 16 g.Source.ReadWords.read_gives) held_by _ _ 8
+    c.in-Err.error so.0 _ _ _ c.loop-done.decoder _ _ so.3 (omega (arith, so.1, c.loop-done-test.true)) c.in-Err.ensures.err
     c.in-Err.ensures.unlearned
 
 pub returns-clause-ok : goal.returns-clause-ok

@@ -1,4 +1,4 @@
-use Rattle.std.proofs.Common.{◌≡◌, List, Bool, ◌∷◌, [], ◌++◌, ◌<◌, length, rules, arith, ap, sym, ◌∙◌, subst, length-append}
+use Rattle.std.proofs.Common.{◌≡◌, List, Bool, ◌∷◌, [], ◌++◌, ◌<◌, length, rules, arith, ap, inl, inr, sym, ◌∙◌, subst, length-append}
 use Rattle.std.proofs.lemmas.List.Elements.{All-push}
 use Rattle.std.specs.Bool.{beq}
 use Rattle.constriction_words.specs.declared.CoderError.TheVariants.{Frontend}
@@ -8,8 +8,9 @@ use Rattle.constriction_coders.specs.declared.queue.range_decoder.DecoderFronten
 use Rattle.constriction_adaptive.specs.Bytes.{all_bits, bits_of}
 use Rattle.constriction_adaptive.specs.Predicted.{AreCoded, IsReadIn}
 use Rattle.constriction_adaptive.proofs.Bits.{all-bits-length, all-bits-push}
-use Rattle.constriction_adaptive.proofs.Reading.{holding, not-invalid, told-start, told-turns}
-use Rattle.constriction_adaptive.proofs.Runs.{coded-append}
+use Rattle.constriction_adaptive.proofs.ReadOnce.{not-invalid}
+use Rattle.constriction_adaptive.proofs.Runs.{above-all, coded-append}
+use Rattle.constriction_adaptive.proofs.Telling.{holding, told-start, told-turns}
 use Rattle.constriction_adaptive.proofs.bytes.decode_bytes.Goals as goal
 
 pub loop-done-preserved : goal.loop-done-preserved
@@ -66,15 +67,19 @@ returns-in-Err-decode_byte-clause-valid g c = λ is bytes words long read known.
     let start = told-start gives tells law c.args.source (held_by c.in-Ok.decoder).held c.in-Ok.decoder.words c.in-Ok.ensures.ok
     words known in
     let run = told-turns gives tells law rows (λ s t. t ≡ s) beq 16 (placed next first (before ++ stops.done)) (held_by c.in-Ok.decoder)
-    stops.reached coded.led start.0 start.2 in
-    not-invalid rows next first (before ++ stops.done) bytes words (holding (held_by c.in-Ok.decoder).held start.0)
-    (holding stops.reached.held run.0) start.1 run.1 read
-    (omega (
-      arith,
-      length-append before stops.done,
-      all-bits-length c.loop-done.bytes.items,
-      c.loop-done.invariant.counted,
-      stops.fewer,
-      long,
-      c.loop-done-test.true,
-    )) stops.fault.0.0
+    (held_by stops.reached) coded.led start.0 start.2 in
+    elim stops.why [
+      | inr none ↦ cc (none.3, none.4)
+      | inl few ↦
+          not-invalid rows next first (before ++ stops.done) bytes words (holding (held_by c.in-Ok.decoder).held start.0)
+          (holding (held_by stops.reached).held run.0) start.1 run.1 read
+          (omega (
+            arith,
+            length-append before stops.done,
+            all-bits-length c.loop-done.bytes.items,
+            c.loop-done.invariant.counted,
+            few.0,
+            long,
+            c.loop-done-test.true,
+          )) (above-all held_by _ _ gives 16 stops.reached _ few.1)
+    ]

@@ -7,7 +7,7 @@ use Rattle.std.proofs.lemmas.Result.{IfOk-weaker}
 use Rattle.constriction_coders.specs.Places.{entry_at, IsMessageFrom}
 use Rattle.constriction_coders.specs.Spans.{Span, whole, IsNarrowed}
 use Rattle.constriction_adaptive.specs.Bytes.{all_bits, bits_of, AreReadFrom}
-use Rattle.constriction_adaptive.specs.Predicted.{entry_in, AllTile, AreCoded}
+use Rattle.constriction_adaptive.specs.Predicted.{predicted_entry, AllTile, AreCoded}
 use Rattle.constriction_adaptive.proofs.Bits.{all-bits-take}
 use Rattle.constriction_adaptive.proofs.MessageReading.{message-read}
 use Rattle.constriction_adaptive.proofs.Runs.{coded-append, tile-append}
@@ -22,7 +22,7 @@ loop-byte-preserved g c =
     let first = g.P.Predictor.state c.args.predictor.now in
     let before = c.loop-byte.invariant in
     let byte = get_or bytes i 0 in
-    let Step : g.P.Predictor.State × Bool → Span → Span → Type 0 = λ s. IsNarrowed (entry_at (entry_in rows beq) s) 16 in
+    let Step : g.P.Predictor.State × Bool → Span → Span → Type 0 = λ s. IsNarrowed (entry_at (predicted_entry rows beq) s) 16 in
     let more = sym (all-bits-take bytes i c.loop-byte-test.true) in
     let in_range : byte < 256 = first_of (omega arith, search rules) in record {
       so_far =
@@ -46,14 +46,14 @@ returns g c =
     let bytes = c.args.bytes.now in
     let all = take_all c.loop-byte.byte-index bytes (omega (arith, c.loop-byte-test.false)) in
     let coded =
-    subst (λ (bs : List ℕ). AreCoded next (λ s. IsNarrowed (entry_at (entry_in rows beq) s) 16) (all_bits bs) first whole
+    subst (λ (bs : List ℕ). AreCoded next (λ s. IsNarrowed (entry_at (predicted_entry rows beq) s) 16) (all_bits bs) first whole
     (g.P.Predictor.state c.loop-byte.predictor) c.loop-byte.encoder) all c.loop-byte.invariant.so_far in
     let tile = subst (λ (bs : List ℕ). AllTile rows next 16 first (all_bits bs)) all c.loop-byte.invariant.tile in
     let small = subst (λ (bs : List ℕ). All (λ b. b < 256) bs) all c.loop-byte.invariant.small in
     record {
       ok =
           IfOk-weaker c.into_compressed.result _
-          (λ words. IsMessageFrom (entry_in rows beq) next 16 first (all_bits bytes) words.items)
+          (λ words. IsMessageFrom (predicted_entry rows beq) next 16 first (all_bits bytes) words.items)
           (λ words sealed. (c.loop-byte.encoder, coded.led, sealed)) c.into_compressed.ensures.ok;
       read =
           IfOk-weaker c.into_compressed.result _ (λ words. AreReadFrom rows next first bytes words.items)

@@ -1,11 +1,11 @@
-use Rattle.constriction_adaptive.specs.Mixer.{MixerState, state_of}
+use Rattle.constriction_adaptive.specs.Mixer.{MixerState, mixer_state}
 use Rattle.constriction_adaptive.proofs.MixerLemmas.{predicted_by, strengths_by}
 use Rattle.constriction_adaptive.proofs.mixer.Mixer.new.Given.{Over}
 use Rattle.constriction_adaptive.proofs.mixer.Mixer.new.Goals as goal
 
 -- what was made
 abbrev made : (g : Over) → goal.After-new-3 g → MixerState
-made g c = state_of c.args.contexts c.args.groups c.in_ok-slots.slots.items c.in_ok-weights.weights.items c.in_ok-past.past
+made g c = mixer_state c.args.contexts c.args.groups c.in_ok-slots.slots.items c.in_ok-weights.weights.items c.in_ok-past.past
 
 pub invariant_of-result-clause-places_are : goal.invariant_of-result-clause-places_are
 invariant_of-result-clause-places_are g c = c.find_places.ensures.are

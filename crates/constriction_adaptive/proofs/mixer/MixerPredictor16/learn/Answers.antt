@@ -1,6 +1,6 @@
 use Rattle.std.proofs.Common.{rules, arith}
 use Rattle.std.specs.Vec.{with_items}
-use Rattle.constriction_adaptive.specs.Mixer.{MixerState, state_of}
+use Rattle.constriction_adaptive.specs.Mixer.{MixerState, mixer_state}
 use Rattle.constriction_adaptive.proofs.MixerLemmas.{predicted_by, strengths_by}
 use Rattle.constriction_adaptive.proofs.mixer.MixerPredictor16.learn.Given.{Over}
 use Rattle.constriction_adaptive.proofs.mixer.MixerPredictor16.learn.Goals as goal
@@ -9,7 +9,7 @@ use Rattle.constriction_adaptive.proofs.mixer.MixerPredictor16.learn.Goals as go
 abbrev learned : (g : Over) → goal.After-new-self g → MixerState
 learned g c =
     let self = c.args.self.now in
-    state_of self.contexts self.groups (with_items self.slots c.learn.new.slots).items
+    mixer_state self.contexts self.groups (with_items self.slots c.learn.new.slots).items
     (with_items self.weights c.adjust_row.new.weights).items c.move_on.new.past
 
 pub predict-self-requires : goal.predict-self-requires

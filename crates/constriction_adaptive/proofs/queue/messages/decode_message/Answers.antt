@@ -8,7 +8,7 @@ use Rattle.constriction_coders.specs.declared.queue.range_decoder.DecoderFronten
 use Rattle.constriction_coders.proofs.Messages.{came-back, not-invalid}
 use Rattle.constriction_coders.proofs.Sealing.{sealed-tell}
 use Rattle.constriction_coders.proofs.Spanning.{whole-reached}
-use Rattle.constriction_adaptive.proofs.Runs.{same-state}
+use Rattle.constriction_adaptive.proofs.Runs.{above-all, same-state}
 use Rattle.constriction_adaptive.proofs.queue.messages.decode_message.Goals as goal
 
 pub returns-in-Ok-decode_adaptively-clause-back : goal.returns-in-Ok-decode_adaptively-clause-back
@@ -32,10 +32,11 @@ returns-clause-valid g c = λ is symbols words more long message fit known.
     let first = g.P.Predictor.state c.args.predictor.now in
     let same : c.in-Err-decode_adaptively.error ≡ Frontend InvalidData = cc in
     let invalid = rw same at c.in-Err-decode_adaptively.ensures.err in
-    elim invalid [
-      | inl stops ↦
+    elim invalid.why [
+      | inl few ↦
           not-invalid (placed next first) _ _ _ _ _ (c.symbols_come_back.ensures first) (held_by c.in-Ok.decoder) c.args.count
-          stops.done stops.reached stops.coded.led symbols (words ++ more) whole message.0 whole-reached long message.1
-          (sealed-tell message.0 words more message.2 fit) (c.in-Ok.ensures.begins (words ++ more) known) stops.fewer stops.fault.0.0
-      | inr none ↦ cc (none.0)
+          invalid.done (held_by invalid.reached) invalid.coded.led symbols (words ++ more) whole message.0 whole-reached long message.1
+          (sealed-tell message.0 words more message.2 fit) (c.in-Ok.ensures.begins (words ++ more) known) few.0
+          (above-all held_by _ _ g.Source.ReadWords.read_gives g.row.PRECISION invalid.reached _ few.1)
+      | inr none ↦ cc (none.3, none.4)
     ]

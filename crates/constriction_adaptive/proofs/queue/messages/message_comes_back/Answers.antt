@@ -3,7 +3,7 @@ use Rattle.std.proofs.lemmas.List.{append-nil}
 use Rattle.constriction_words.specs.declared.CoderError.TheVariants.{Frontend}
 use Rattle.constriction_coders.specs.Places.{IsMessageFrom}
 use Rattle.constriction_coders.specs.declared.queue.range_decoder.DecoderFrontendError.TheVariants.{InvalidData}
-use Rattle.constriction_adaptive.specs.Predicted.{entry_in}
+use Rattle.constriction_adaptive.specs.Predicted.{predicted_entry}
 use Rattle.constriction_adaptive.proofs.queue.messages.message_comes_back.Goals as goal
 
 pub returns-in-Ok-decode_message : goal.returns-in-Ok-decode_message
@@ -12,7 +12,7 @@ returns-in-Ok-decode_message g c =
     let words = c.in-Ok.words.items in
     let known : words ++ [] ≡ drop source.result.pos source.result.buf.items =
     rw (ap (λ p. p.1) source.ensures, ap (λ p. p.0) source.ensures) (append-nil words) in
-    let message : IsMessageFrom (entry_in g.P.Predictor.rows g.P.Model.EncoderModel.symbol_eq) g.P.Predictor.next g.row.PRECISION
+    let message : IsMessageFrom (predicted_entry g.P.Predictor.rows g.P.Model.EncoderModel.symbol_eq) g.P.Predictor.next g.row.PRECISION
     (g.P.Predictor.state c.args.decoding.now) c.args.symbols.now words = rw c.requires c.in-Ok.ensures.ok in
     let both = c.in-Ok-decode_message.ensures.back c.args.symbols.now words [] refl message (λ k d h. absurd (omega (arith, h))) known in
     record {
@@ -30,7 +30,7 @@ returns-in-Err-decode_message-clause-valid g c = λ is.
     let words = c.in-Ok.words.items in
     let known : words ++ [] ≡ drop source.result.pos source.result.buf.items =
     rw (ap (λ p. p.1) source.ensures, ap (λ p. p.0) source.ensures) (append-nil words) in
-    let message : IsMessageFrom (entry_in g.P.Predictor.rows g.P.Model.EncoderModel.symbol_eq) g.P.Predictor.next g.row.PRECISION
+    let message : IsMessageFrom (predicted_entry g.P.Predictor.rows g.P.Model.EncoderModel.symbol_eq) g.P.Predictor.next g.row.PRECISION
     (g.P.Predictor.state c.args.decoding.now) c.args.symbols.now words = rw c.requires c.in-Ok.ensures.ok in
     let same : c.in-Err-decode_message.error ≡ Frontend InvalidData = cc in
     c.in-Err-decode_message.ensures.valid (ap Err same) c.args.symbols.now words [] refl message (λ k d h. absurd (omega (arith, h))) known

@@ -3,7 +3,7 @@ use Rattle.std.specs.List.{AllZip}
 use Rattle.std.proofs.lemmas.List.{take_all}
 use Rattle.constriction_coders.specs.Places.{placed, entry_at}
 use Rattle.constriction_adaptive.specs.Entries.{IsEntryAt}
-use Rattle.constriction_adaptive.specs.Predicted.{entry_in}
+use Rattle.constriction_adaptive.specs.Predicted.{predicted_entry}
 use Rattle.constriction_adaptive.proofs.Entries.{entries-take, stops-predicting}
 use Rattle.constriction_adaptive.proofs.stack.entries.entries_of.Goals as goal
 
@@ -12,11 +12,11 @@ loop-symbol-preserved g c =
     let symbols = c.args.symbols.now in
     let i = c.loop-symbol.symbol-index in
     let found = c.loop-symbol.entries.items in
-    let entry = c.in-Ok-predicted.entry in
+    let entry = c.in-Ok-predict_and_learn.entry in
     let both = entries-take g.P.Predictor.next symbols i c.symbol-item.result c.loop-symbol-test.true c.symbol-item.is
     (g.P.Predictor.state c.args.predictor.now) _ c.loop-symbol.invariant.learned
-    (entry_at (entry_in g.P.Predictor.rows g.P.Model.EncoderModel.symbol_eq)) g.row.PRECISION found entry _
-    c.loop-symbol.invariant.so_far c.in-Ok-predicted.ensures.ok c.in-Ok-predicted.ensures.learned in record {
+    (entry_at (predicted_entry g.P.Predictor.rows g.P.Model.EncoderModel.symbol_eq)) g.row.PRECISION found entry _
+    c.loop-symbol.invariant.so_far c.in-Ok-predict_and_learn.ensures.ok c.in-Ok-predict_and_learn.ensures.learned in record {
       counted = omega (arith, ap length c.push_reserved.ensures.items, length-append found (entry ∷ []), c.loop-symbol.invariant.counted);
       room = omega (arith, c.push_reserved.ensures.capacity, c.loop-symbol.invariant.room);
       so_far = rw c.push_reserved.ensures.items both.0;
@@ -27,12 +27,12 @@ pub returns-in-Err-clause-err : goal.returns-in-Err-clause-err
 returns-in-Err-clause-err g c =
     stops-predicting g.P.Predictor.next c.args.symbols.now c.loop-symbol.symbol-index c.symbol-item.result c.loop-symbol-test.true
     c.symbol-item.is (g.P.Predictor.state c.args.predictor.now) _ c.loop-symbol.invariant.learned
-    (entry_in g.P.Predictor.rows g.P.Model.EncoderModel.symbol_eq) c.in-Err.error _
+    (predicted_entry g.P.Predictor.rows g.P.Model.EncoderModel.symbol_eq) c.in-Err.error _
     (λ is. c.in-Err.ensures.impossible (ap Err is)) c.in-Err.ensures.unlearned
 
 pub returns-clause-ok : goal.returns-clause-ok
 returns-clause-ok g c =
     subst (λ (xs : List g.row.P-Symbol.Denot). AllZip
-    (IsEntryAt g.row.PRECISION (entry_at (entry_in g.P.Predictor.rows g.P.Model.EncoderModel.symbol_eq)))
+    (IsEntryAt g.row.PRECISION (entry_at (predicted_entry g.P.Predictor.rows g.P.Model.EncoderModel.symbol_eq)))
     (placed g.P.Predictor.next (g.P.Predictor.state c.args.predictor.now) xs) c.loop-symbol.entries.items)
     (take_all c.loop-symbol.symbol-index c.args.symbols.now (omega (arith, c.loop-symbol-test.false))) c.loop-symbol.invariant.so_far

@@ -6,13 +6,13 @@ use Rattle.constriction_coders.specs.AnsCoder.{held_by}
 use Rattle.constriction_coders.specs.Places.{placed, entry_at}
 use Rattle.constriction_coders.specs.Steps.{Content, IsEncoded}
 use Rattle.constriction_adaptive.specs.Entries.{IsEntryAt}
-use Rattle.constriction_adaptive.specs.Predicted.{entry_in}
+use Rattle.constriction_adaptive.specs.Predicted.{predicted_entry}
 use Rattle.constriction_adaptive.proofs.Entries.{encoded-more, entry-lies, placed-long, stacking-stops}
 use Rattle.constriction_adaptive.proofs.stack.runs.encode_adaptively.Goals as goal
 
 pub loop-done-init : goal.loop-done-init
 loop-done-init g c =
-    let entry = entry_at (entry_in g.P.Predictor.rows g.P.Model.EncoderModel.symbol_eq) in
+    let entry = entry_at (predicted_entry g.P.Predictor.rows g.P.Model.EncoderModel.symbol_eq) in
     let places = placed g.P.Predictor.next (g.P.Predictor.state c.args.predictor.now) c.args.symbols.now in
     let many = AllZip-long (IsEntryAt g.row.PRECISION entry) places c.in-Ok.entries.items c.in-Ok.ensures.ok in
     let long = placed-long g.P.Predictor.next (g.P.Predictor.state c.args.predictor.now) c.args.symbols.now in
@@ -25,19 +25,19 @@ loop-done-init g c =
 
 pub put_entry-requires-clause-some : goal.put_entry-requires-clause-some
 put_entry-requires-clause-some g c =
-    (entry-lies (entry_at (entry_in g.P.Predictor.rows g.P.Model.EncoderModel.symbol_eq)) g.row.PRECISION _ c.in-Ok.entries.items
+    (entry-lies (entry_at (predicted_entry g.P.Predictor.rows g.P.Model.EncoderModel.symbol_eq)) g.row.PRECISION _ c.in-Ok.entries.items
     (c.len-count.result - 1 - c.loop-done.done) c.index.result.now c.in-Ok.ensures.ok
     (omega (arith, c.len-count.ensures, c.loop-done-test.true)) c.index.ensures).1.some
 
 pub put_entry-requires-clause-within : goal.put_entry-requires-clause-within
 put_entry-requires-clause-within g c =
-    (entry-lies (entry_at (entry_in g.P.Predictor.rows g.P.Model.EncoderModel.symbol_eq)) g.row.PRECISION _ c.in-Ok.entries.items
+    (entry-lies (entry_at (predicted_entry g.P.Predictor.rows g.P.Model.EncoderModel.symbol_eq)) g.row.PRECISION _ c.in-Ok.entries.items
     (c.len-count.result - 1 - c.loop-done.done) c.index.result.now c.in-Ok.ensures.ok
     (omega (arith, c.len-count.ensures, c.loop-done-test.true)) c.index.ensures).1.within
 
 pub loop-done-preserved : goal.loop-done-preserved
 loop-done-preserved g c =
-    let entry = entry_at (entry_in g.P.Predictor.rows g.P.Model.EncoderModel.symbol_eq) in
+    let entry = entry_at (predicted_entry g.P.Predictor.rows g.P.Model.EncoderModel.symbol_eq) in
     let places = placed g.P.Predictor.next (g.P.Predictor.state c.args.predictor.now) c.args.symbols.now in
     let i : ℕ = c.len-count.result - 1 - c.loop-done.done in
     let before : c.len-count.result - c.loop-done.done ≡ suc i = omega (arith, c.loop-done-test.true) in
@@ -53,7 +53,7 @@ loop-done-preserved g c =
 
 pub returns-clause-ok : goal.returns-clause-ok
 returns-clause-ok g c =
-    let entry = entry_at (entry_in g.P.Predictor.rows g.P.Model.EncoderModel.symbol_eq) in
+    let entry = entry_at (predicted_entry g.P.Predictor.rows g.P.Model.EncoderModel.symbol_eq) in
     let places = placed g.P.Predictor.next (g.P.Predictor.state c.args.predictor.now) c.args.symbols.now in
     let none : c.len-count.result - c.loop-done.done ≡ 0 = omega (arith, c.loop-done-test.false) in
     record {
@@ -65,7 +65,7 @@ returns-clause-ok g c =
 
 pub returns-in-Err-put_entry-clause-err : goal.returns-in-Err-put_entry-clause-err
 returns-in-Err-put_entry-clause-err g c =
-    let entry = entry_at (entry_in g.P.Predictor.rows g.P.Model.EncoderModel.symbol_eq) in
+    let entry = entry_at (predicted_entry g.P.Predictor.rows g.P.Model.EncoderModel.symbol_eq) in
     let next = g.P.Predictor.next in
     let first = g.P.Predictor.state c.args.predictor.now in
     let i : ℕ = c.len-count.result - 1 - c.loop-done.done in

@@ -1,6 +1,6 @@
 use Rattle.std.proofs.Common.{ap, ◌∙◌}
 use Rattle.constriction_adaptive.proofs.Runs.{narrowed-in, tile-in}
-use Rattle.constriction_adaptive.proofs.queue.next.encode_next.Goals as goal
+use Rattle.constriction_adaptive.proofs.queue.encoding.encode_next.Goals as goal
 
 pub returns-in-Ok-encode_symbol-clause-ok : goal.returns-in-Ok-encode_symbol-clause-ok
 returns-in-Ok-encode_symbol-clause-ok g c =

@@ -3,13 +3,13 @@ use Rattle.std.specs.Bool.{beq}
 use Rattle.constriction_coders.specs.Places.{IsMessageFrom}
 use Rattle.constriction_adaptive.specs.Bytes.{all_bits, AreReadFrom}
 use Rattle.constriction_adaptive.specs.Mixer.{MixerState, mixer_after, mixer_rows}
-use Rattle.constriction_adaptive.specs.Predicted.{entry_in}
-use Rattle.constriction_programs_tests.proofs.mixed.encoded.Goals as goal
+use Rattle.constriction_adaptive.specs.Predicted.{predicted_entry}
+use Rattle.constriction_programs_tests.proofs.mixed.encoded_by_a_mixer.Goals as goal
 
 pub returns-clause-message : goal.returns-clause-message
 returns-clause-message c =
     subst (λ (s : MixerState). IfOk c.encode_bytes.result
-    (λ words. IsMessageFrom (entry_in mixer_rows beq) mixer_after 16 s (all_bits c.args.bytes.now) words.items))
+    (λ words. IsMessageFrom (predicted_entry mixer_rows beq) mixer_after 16 s (all_bits c.args.bytes.now) words.items))
     c.in_ok-mixer.ensures c.encode_bytes.ensures.ok
 
 pub returns-clause-read : goal.returns-clause-read

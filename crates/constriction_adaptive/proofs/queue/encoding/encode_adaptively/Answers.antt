@@ -1,14 +1,14 @@
 use Rattle.constriction_coders.specs.Places.{entry_at}
 use Rattle.constriction_coders.specs.Spans.{IsNarrowed}
-use Rattle.constriction_adaptive.specs.Predicted.{entry_in, IsEncodingFault}
+use Rattle.constriction_adaptive.specs.Predicted.{predicted_entry, IsEncodingFault}
 use Rattle.constriction_adaptive.proofs.Runs.{coded-take, encoding-stops, tile-take}
-use Rattle.constriction_adaptive.proofs.queue.runs.encode_adaptively.Goals as goal
+use Rattle.constriction_adaptive.proofs.queue.encoding.encode_adaptively.Goals as goal
 
 pub loop-symbol-preserved : goal.loop-symbol-preserved
 loop-symbol-preserved g c = record {
   so_far =
       coded-take g.P.Predictor.next
-      (λ s. IsNarrowed (entry_at (entry_in g.P.Predictor.rows g.P.Model.EncoderModel.symbol_eq) s) g.row.PRECISION) c.args.symbols.now
+      (λ s. IsNarrowed (entry_at (predicted_entry g.P.Predictor.rows g.P.Model.EncoderModel.symbol_eq) s) g.row.PRECISION) c.args.symbols.now
       c.loop-symbol.symbol-index c.symbol-item.result c.loop-symbol-test.true c.symbol-item.is _ _ _ _ c.loop-symbol.invariant.so_far _ _
       c.in-Ok.ensures.ok c.in-Ok.ensures.learned;
   tile =
@@ -19,7 +19,7 @@ loop-symbol-preserved g c = record {
 
 pub returns-in-Err-clause-err : goal.returns-in-Err-clause-err
 returns-in-Err-clause-err g c =
-    let entry = entry_at (entry_in g.P.Predictor.rows g.P.Model.EncoderModel.symbol_eq) in
+    let entry = entry_at (predicted_entry g.P.Predictor.rows g.P.Model.EncoderModel.symbol_eq) in
     encoding-stops g.P.Predictor.next (λ s. IsNarrowed (entry s) g.row.PRECISION) c.args.symbols.now c.loop-symbol.symbol-index
     c.symbol-item.result c.loop-symbol-test.true c.symbol-item.is _ _ _ _ c.loop-symbol.invariant.so_far
     (IsEncodingFault entry g.row.PRECISION c.in-Err.error) _ _ c.in-Err.ensures.fault c.in-Err.ensures.unlearned c.in-Err.ensures.same

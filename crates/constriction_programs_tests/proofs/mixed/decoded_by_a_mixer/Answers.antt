@@ -2,7 +2,7 @@ use Rattle.std.proofs.Common.{◌≡◌, IfOk, ap, drop, refl, subst, sym}
 use Rattle.std.proofs.lemmas.Result.{IfOk-weaker}
 use Rattle.constriction_adaptive.specs.Bytes.{AreReadFrom}
 use Rattle.constriction_adaptive.specs.Mixer.{MixerState, mixer_after, mixer_rows}
-use Rattle.constriction_programs_tests.proofs.mixed.decoded.Goals as goal
+use Rattle.constriction_programs_tests.proofs.mixed.decoded_by_a_mixer.Goals as goal
 
 pub returns-clause-read : goal.returns-clause-read
 returns-clause-read c =

@@ -1,0 +1,20 @@
+use Rattle.std.proofs.Common.{Err, List, ap, inl, inr, refl, ◌∙◌, subst}
+use Rattle.constriction_model.specs.Rows.{Row}
+use Rattle.constriction_adaptive.proofs.Runs.{decoded-in}
+use Rattle.constriction_adaptive.proofs.decoding.decode_next.Goals as goal
+
+pub returns-in-Err-clause-err : goal.returns-in-Err-clause-err
+returns-in-Err-clause-err g c = inl (c.into.result, c.into.ensures, refl, refl)
+
+pub returns-in-Ok-decode_symbol-clause-ok : goal.returns-in-Ok-decode_symbol-clause-ok
+returns-in-Ok-decode_symbol-clause-ok g c =
+    decoded-in g.P.Predictor.rows g.P.Model.EncoderModel.symbol_eq g.row.PRECISION _ (g.P.Predictor.state c.args.predictor.now)
+    (c.model.ensures ∙ ap g.P.Predictor.rows c.reserve.ensures.same)
+    (g.C.Decode.is_decoded _ g.P.Model.DecoderModel.stands_for) _ _ _
+    (g.met.P.Model.DecoderModel.tile_law c.model.result.now) c.in-Ok-decode_symbol.ensures.ok
+
+pub returns-in-Err-decode_symbol-clause-err : goal.returns-in-Err-decode_symbol-clause-err
+returns-in-Err-decode_symbol-clause-err g c =
+    inr (subst (λ (rows : List (Row g.row.P-Symbol.Denot)). g.C.Decode.decodes _ g.P.Model.DecoderModel.may_refuse rows
+    c.args.coder.now (Err c.in-Err-decode_symbol.error) c.decode_symbol.new.self)
+    (c.model.ensures ∙ ap g.P.Predictor.rows c.reserve.ensures.same) c.in-Err-decode_symbol.ensures.step)
