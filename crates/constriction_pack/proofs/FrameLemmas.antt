@@ -10,12 +10,12 @@ use Rattle.constriction.specs.Acceptance.{IsAccepted}
 use Rattle.constriction.specs.Rows.{Row}
 use Rattle.constriction_adaptive.specs.Bytes.{AreReadFrom}
 use Rattle.constriction_adaptive.specs.Mixer.{mixer_after, mixer_rows}
-use Rattle.constriction_adaptive.proofs.Reading.{read-once}
+use Rattle.constriction_adaptive.proofs.ReadOnce.{read-once}
 use Rattle.constriction_coders.specs.Bytes.{bytes_of_words}
 use Rattle.constriction_coders.specs.lemmas.Bytes.{bytes_once}
 use Rattle.constriction_pack.specs.Contents.{IsCoded, IsContent, IsPredicted, IsWeighted}
 use Rattle.constriction_pack.specs.Contents.{bytes_of_weights, few_contexts, many_contexts}
-use Rattle.constriction_pack.specs.Contents.{number_of}
+use Rattle.constriction_pack.specs.Contents.{kind_number}
 use Rattle.constriction_pack.specs.Frames.{IsFrame, frame_of, hash_after, hash_after_frame}
 use Rattle.constriction_pack.specs.Frames.{header_of, tag_of}
 use Rattle.constriction_pack.specs.declared.kind.Kind.{Kind}
@@ -32,7 +32,7 @@ abbrev kind_of : ℕ → Kind
 kind_of n = if n == 0 then Stored else (if n == 1 then Repeated else (if n == 2 then Weighted
     else (if n == 3 then FewContexts else ManyContexts)))
 
-kind_back : (k : Kind) → kind_of (number_of k) ≡ k
+kind_back : (k : Kind) → kind_of (kind_number k) ≡ k
 kind_back Stored = refl
 kind_back Repeated = refl
 kind_back Weighted = refl
@@ -40,11 +40,11 @@ kind_back FewContexts = refl
 kind_back ManyContexts = refl
 
 -- a kind has a number of its own
-kind_once : (k j : Kind) → number_of k ≡ number_of j → k ≡ j
+kind_once : (k j : Kind) → kind_number k ≡ kind_number j → k ≡ j
 kind_once k j e = sym (kind_back k) ∙ ap kind_of e ∙ kind_back j
 
 -- below 128
-number_small : (k : Kind) → number_of k < 128
+number_small : (k : Kind) → kind_number k < 128
 number_small Stored = lit< tt
 number_small Repeated = lit< tt
 number_small Weighted = lit< tt

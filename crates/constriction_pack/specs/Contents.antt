@@ -27,17 +27,19 @@ use Rattle.constriction_coders.specs.Bytes.{bytes_of_words}
 use Rattle.constriction_coders.specs.StackMessages.{IsStackOf}
 use Rattle.constriction_adaptive.specs.Bytes.{AreReadFrom}
 use Rattle.constriction_adaptive.specs.Mixer.{MixerState, mixer_after, mixer_begun, mixer_rows}
+use Rattle.constriction_pack.specs.declared.kind.TheConstants.{FEW_CONTEXTS, FEW_FOLLOWERS, FEW_GROUPS, FEW_REACH}
+use Rattle.constriction_pack.specs.declared.kind.TheConstants.{MANY_CONTEXTS, MANY_FOLLOWERS, MANY_GROUPS, MANY_REACH}
 use Rattle.constriction_pack.specs.declared.kind.Kind.{Kind}
 use Rattle.constriction_pack.specs.declared.kind.Kind.TheVariants.{Stored, Repeated, Weighted}
 use Rattle.constriction_pack.specs.declared.kind.Kind.TheVariants.{FewContexts, ManyContexts}
 
 -- the number of a kind
-abbrev pub number_of : Kind → ℕ
-number_of Stored = 0
-number_of Repeated = 1
-number_of Weighted = 2
-number_of FewContexts = 3
-number_of ManyContexts = 4
+abbrev pub kind_number : Kind → ℕ
+kind_number Stored = 0
+kind_number Repeated = 1
+kind_number Weighted = 2
+kind_number FewContexts = 3
+kind_number ManyContexts = 4
 
 -- as many times the same byte: their number in four bytes, and the byte
 pub record IsRepeated (bytes content : List ℕ) : Type 0 where
@@ -87,10 +89,10 @@ pub record IsPredicted {State : Type 0} (rows : State → List (Row Bool)) (next
 
 -- mixers that learned nothing: of two contexts, and of six
 abbrev pub few_contexts : MixerState
-few_contexts = mixer_begun (2 ∷ 0 ∷ []) 131072 1048576 5
+few_contexts = mixer_begun FEW_CONTEXTS FEW_GROUPS FEW_FOLLOWERS FEW_REACH
 
 abbrev pub many_contexts : MixerState
-many_contexts = mixer_begun (1 ∷ 2 ∷ 3 ∷ 4 ∷ 6 ∷ 0 ∷ []) 1048576 4194304 8
+many_contexts = mixer_begun MANY_CONTEXTS MANY_GROUPS MANY_FOLLOWERS MANY_REACH
 
 -- the content of a block of this kind with these bytes
 abbrev pub IsContent : Kind → List ℕ → List ℕ → Type 0

@@ -21,7 +21,7 @@ use Rattle.std.specs.Prelude.{
   if◌then◌else◌,
 }
 use Rattle.std.specs.Int.{to_le_bytes, w64}
-use Rattle.constriction_pack.specs.Contents.{IsContent, number_of}
+use Rattle.constriction_pack.specs.Contents.{IsContent, kind_number}
 use Rattle.constriction_pack.specs.declared.kind.Kind.{Kind}
 
 -- the 64-bit FNV-1a hash after bytes, if it was `hash` before them
@@ -35,7 +35,7 @@ first_hash = 14695981039346656037
 
 -- what tells the kind of a block, and whether it is the last one
 abbrev pub tag_of : Kind → Bool → ℕ
-tag_of kind is_last = number_of kind + (if is_last then 128 else 0)
+tag_of kind is_last = kind_number kind + (if is_last then 128 else 0)
 
 -- the header of a content of n bytes: the tag, the number in three bytes, the lowest first, and the
 -- exclusive or of these four

@@ -1,7 +1,7 @@
 //! The kinds of contents.
 
 ghost use Rattle.std.specs.Prelude.{◌≡◌, Some, IfSome};
-ghost use Rattle.constriction_pack.specs.Contents.{number_of};
+ghost use Rattle.constriction_pack.specs.Contents.{kind_number};
 
 /// What the content of a block is.
 #[derive(Debug, Clone, Copy, PartialEq, Eq)]
@@ -17,16 +17,33 @@ pub enum Kind {
     Weighted,
     /// 3: how many bytes the block has, in four bytes, and the words of a range coder, four bytes
     /// each. They have the bits of the bytes, the highest of each first, as a `Mixer` of two
-    /// contexts predicts them that learned nothing before. `docs/PACKED.md` has its parameters.
+    /// contexts predicts them that learned nothing before. Its parameters stand beside this type.
     FewContexts,
     /// 4: the same by a `Mixer` of six contexts.
     ManyContexts,
 }
 
+/// The parameters of the mixers, as `Mixer::new` takes them.
+pub(crate) const FEW_CONTEXTS: [u32; 2] = [2, 0];
+
+pub(crate) const FEW_GROUPS: u32 = 131_072;
+
+pub(crate) const FEW_FOLLOWERS: usize = 1_048_576;
+
+pub(crate) const FEW_REACH: u32 = 5;
+
+pub(crate) const MANY_CONTEXTS: [u32; 6] = [1, 2, 3, 4, 6, 0];
+
+pub(crate) const MANY_GROUPS: u32 = 1_048_576;
+
+pub(crate) const MANY_FOLLOWERS: usize = 4_194_304;
+
+pub(crate) const MANY_REACH: u32 = 8;
+
 impl Kind {
     /// The number that stands for the kind in a file.
     pub(crate) fn number(self) -> u8
-        ensures { result ≡ number_of self }
+        ensures { result ≡ kind_number self }
     {
         match self {
             Kind::Stored => 0,
@@ -39,8 +56,8 @@ impl Kind {
 
     /// The kind that this number stands for.
     pub(crate) fn of_number(number: u8) -> Option<Kind>
-        ensures some { IfSome result (λ kind. number_of kind ≡ number) }
-        ensures none { (kind : Kind) → number_of kind ≡ number → result ≡ Some kind }
+        ensures some { IfSome result (λ kind. kind_number kind ≡ number) }
+        ensures none { (kind : Kind) → kind_number kind ≡ number → result ≡ Some kind }
     {
         match number {
             0 => Some(Kind::Stored),

@@ -39,7 +39,7 @@ pub(crate) fn push_weights(content: &mut Vec<u8>, weights: &[u32]) -> Result<(),
 }
 
 /// The weight that bytes begin with, and how many bytes it has.
-fn weight_of(bytes: &[u8]) -> Option<(u32, usize)>
+fn first_weight(bytes: &[u8]) -> Option<(u32, usize)>
     ensures positive { IfSome result (λ found. 0 < found.0) }
     ensures within { IfSome result (λ found. found.1 ≤ length bytes.now) }
     ensures some { IfSome result (λ found. bytes.now
@@ -87,7 +87,7 @@ pub(crate) fn weights_in(
     let mut weights = Vec::new(alloc);
     let mut at = 0;
     for done in 0..count {
-        let Some((weight, bytes_of_it)) = weight_of(&bytes[at..]) else {
+        let Some((weight, bytes_of_it)) = first_weight(&bytes[at..]) else {
             return Err(PackError::Damaged);
         };
         weights.push(weight)?;

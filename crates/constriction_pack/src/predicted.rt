@@ -6,9 +6,12 @@ ghost use Rattle.constriction_pack.specs.Contents.{IsContent, IsPredicted, few_c
 
 use crate::block::MOST_BYTES;
 use crate::fault::PackError;
-use crate::kind::Kind;
+use crate::kind::{
+    FEW_CONTEXTS, FEW_FOLLOWERS, FEW_GROUPS, FEW_REACH, Kind, MANY_CONTEXTS, MANY_FOLLOWERS,
+    MANY_GROUPS, MANY_REACH,
+};
 use crate::level::Level;
-use crate::reading::number_of;
+use crate::reading::little_endian;
 use constriction::CoderError;
 use constriction::backends::Cursor;
 use constriction_adaptive::bytes::{decode_bytes, encode_bytes};
@@ -18,7 +21,7 @@ use constriction_coders::queue::DecoderFrontendError;
 use std::alloc::{AllocError, Global};
 
 /// The content of bytes by what predicts their bits, if it is shorter than `below`.
-fn predicted<P>(
+fn by_predictor<P>(
     alloc: Global,
     predictor: &mut P,
     bytes: &[u8],
@@ -57,7 +60,7 @@ where
     let [first, second, third, fourth, coded @ ..] = content else {
         return Err(PackError::Damaged);
     };
-    let count = number_of(&[*first, *second, *third, *fourth]) as usize;
+    let count = little_endian(&[*first, *second, *third, *fourth]) as usize;
     if count == 0 || count > MOST_BYTES {
         return Err(PackError::Damaged);
     }
@@ -79,14 +82,20 @@ where
 fn two_contexts(alloc: Global) -> Result<Mixer<2>, AllocError>
     ensures { IfOk result (λ mixer. ⟦<Mixer<2> as Predictor<16>>⟧.state mixer ≡ few_contexts) }
 {
-    Mixer::<2>::new(alloc, [2, 0], 131_072, 1_048_576, 5)
+    Mixer::<2>::new(alloc, FEW_CONTEXTS, FEW_GROUPS, FEW_FOLLOWERS, FEW_REACH)
 }
 
 /// A mixer of six contexts that learned nothing.
 fn six_contexts(alloc: Global) -> Result<Mixer<6>, AllocError>
     ensures { IfOk result (λ mixer. ⟦<Mixer<6> as Predictor<16>>⟧.state mixer ≡ many_contexts) }
 {
-    Mixer::<6>::new(alloc, [1, 2, 3, 4, 6, 0], 1_048_576, 4_194_304, 8)
+    Mixer::<6>::new(
+        alloc,
+        MANY_CONTEXTS,
+        MANY_GROUPS,
+        MANY_FOLLOWERS,
+        MANY_REACH,
+    )
 }
 
 /// The content `FewContexts` of bytes, if it is shorter than `below`.
@@ -99,7 +108,7 @@ fn by_few_contexts(alloc: Global, bytes: &[u8], below: usize) -> Result<Option<V
         length content.items < below)) }
 {
     let mut mixer = two_contexts(alloc)?;
-    predicted(alloc, &mut mixer, bytes, below)
+    by_predictor(alloc, &mut mixer, bytes, below)
 }
 
 /// The content `ManyContexts` of bytes, if it is shorter than `below`.
@@ -116,7 +125,7 @@ fn by_many_contexts(
         length content.items < below)) }
 {
     let mut mixer = six_contexts(alloc)?;
-    predicted(alloc, &mut mixer, bytes, below)
+    by_predictor(alloc, &mut mixer, bytes, below)
 }
 
 /// The length of a content, or `most` if there is none.

@@ -13,7 +13,7 @@ use constriction_io::read_up_to;
 use std::io::Read;
 
 /// The number of these four bytes.
-pub(crate) fn number_of(bytes: &[u8]) -> u32
+pub(crate) fn little_endian(bytes: &[u8]) -> u32
     requires { length bytes.now ≡ 4 }
     ensures { bytes_of_words (result ∷ []) ≡ bytes.now }
 {

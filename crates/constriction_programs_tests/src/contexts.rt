@@ -2,7 +2,7 @@
 //! from the description of the format.
 
 use crate::checks::{holds, same};
-use crate::packing::{are_refused_if_flipped, status_of};
+use crate::packing::{are_refused_if_flipped, unpacking_status};
 use constriction_pack::{Kind, Level, PackError, pack, pack_block, unpack_block};
 use std::alloc::Global;
 use std::process::Abort;
@@ -63,9 +63,9 @@ fn are_refused_if_damaged(rt: &impl Abort, alloc: Global, level: Level) {
     let mut file = Vec::new(alloc);
     let mut bytes = VERSES;
     same(rt, pack(alloc, level, &mut bytes, &mut file), Ok(()));
-    same(rt, status_of(alloc, &file), 0);
+    same(rt, unpacking_status(alloc, &file), 0);
     for end in 0..file.len() {
-        same(rt, status_of(alloc, &file[..end]), 2);
+        same(rt, unpacking_status(alloc, &file[..end]), 2);
     }
     are_refused_if_flipped(rt, alloc, &mut file);
 }

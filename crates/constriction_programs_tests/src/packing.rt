@@ -156,7 +156,7 @@ fn are_refused_if_cut(rt: &impl Abort, alloc: Global, bytes: &[u8]) {
 }
 
 /// The exit status for what `unpack` answers to a file.
-pub fn status_of(alloc: Global, file: &[u8]) -> u8 {
+pub fn unpacking_status(alloc: Global, file: &[u8]) -> u8 {
     match unpacked(alloc, u64::MAX, file).0 {
         Ok(()) => 0,
         Err(error) => error.status(),
@@ -169,7 +169,7 @@ pub fn are_refused_if_flipped(rt: &impl Abort, alloc: Global, file: &mut [u8]) {
         let byte = file[place];
         for bit in 0..8u32 {
             file[place] = byte ^ (1 << bit);
-            same(rt, status_of(alloc, file), 2);
+            same(rt, unpacking_status(alloc, file), 2);
         }
         file[place] = byte;
     }
@@ -181,7 +181,7 @@ fn are_refused_if_two_are_flipped(rt: &impl Abort, alloc: Global, file: &mut [u8
         file[place] = !file[place];
         for other in 0..place {
             file[other] = !file[other];
-            same(rt, status_of(alloc, file), 2);
+            same(rt, unpacking_status(alloc, file), 2);
             file[other] = !file[other];
         }
         file[place] = !file[place];
@@ -377,7 +377,7 @@ fn writers_fail(rt: HostRuntime) {
         let (result, written) = packed_partly(rt.alloc(), RARE, turns);
         same(&rt, result, Err(PackError::Write));
         holds(&rt, &written, &file[..turns]);
-        same(&rt, status_of(rt.alloc(), &written), 2);
+        same(&rt, unpacking_status(rt.alloc(), &written), 2);
     }
     let (result, written) = packed_partly(rt.alloc(), RARE, file.len());
     same(&rt, result, Ok(()));

@@ -9,7 +9,7 @@ use Rattle.constriction_pack.proofs.block.of_weighted.Goals as goal
 pub returns-in-Err-CutWord-clause-accepted : goal.returns-in-Err-CutWord-clause-accepted
 returns-in-Err-CutWord-clause-accepted c = λ bytes weighted.
     let content = c.args.content.now in
-    let laid : content ≡ bytes_of_words (c.number_of-count.result ∷ [])
+    let laid : content ≡ bytes_of_words (c.little_endian-count.result ∷ [])
     ++ (get_or content 4 0 ∷ drop 5 content) = grind (arith, common_steps) in
     let begins : drop 5 content ≡ bytes_of_weights c.in_ok-weights.weights.items
     ++ c.split_at.result.1.now = grind (arith, common_steps) in
@@ -23,7 +23,7 @@ returns-in-Err-CutWord-clause-accepted c = λ bytes weighted.
 pub returns-in_err-bytes-clause-accepted : goal.returns-in_err-bytes-clause-accepted
 returns-in_err-bytes-clause-accepted c = λ bytes weighted.
     let content = c.args.content.now in
-    let laid : content ≡ bytes_of_words (c.number_of-count.result ∷ [])
+    let laid : content ≡ bytes_of_words (c.little_endian-count.result ∷ [])
     ++ (get_or content 4 0 ∷ drop 5 content) = grind (arith, common_steps) in
     let begins : drop 5 content ≡ bytes_of_weights c.in_ok-weights.weights.items
     ++ c.split_at.result.1.now = grind (arith, common_steps) in

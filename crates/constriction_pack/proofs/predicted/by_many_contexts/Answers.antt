@@ -6,7 +6,7 @@ use Rattle.constriction_pack.proofs.predicted.by_many_contexts.Goals as goal
 
 pub returns-clause-coded : goal.returns-clause-coded
 returns-clause-coded c =
-    subst (λ (s : MixerState). IfOk c.predicted.result
+    subst (λ (s : MixerState). IfOk c.by_predictor.result
     (λ coded. IfSome coded (λ content. IsPredicted mixer_rows mixer_after s c.args.bytes.now
     content.items)))
-    c.in_ok-mixer.ensures c.predicted.ensures.coded
+    c.in_ok-mixer.ensures c.by_predictor.ensures.coded

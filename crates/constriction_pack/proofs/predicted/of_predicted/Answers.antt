@@ -16,7 +16,7 @@ whole content = take_all (length content - 4) (drop 4 content)
 pub returns-in-Err-CutWord-clause-accepted : goal.returns-in-Err-CutWord-clause-accepted
 returns-in-Err-CutWord-clause-accepted g c = λ bytes p.
     let content = c.args.content.now in
-    let laid : content ≡ bytes_of_words (c.number_of-count.result ∷ []) ++ drop 4 content =
+    let laid : content ≡ bytes_of_words (c.little_endian-count.result ∷ []) ++ drop 4 content =
     grind (arith, common_steps) in
     let same : drop 4 content ≡ bytes_of_words p.words = ap (drop 4) (sym laid ∙ p.laid_out) in
     let whole : length (drop 4 content) % 4 ≡ 0 =
@@ -30,7 +30,7 @@ returns-in-Ok-decode_bytes-clause-ok g c =
     let words = c.in-Ok.words.items in
     let known : words ≡ drop source.result.pos source.result.buf.items =
     rw (ap (λ p. p.1) source.ensures, ap (λ p. p.0) source.ensures) refl in
-    let laid : content ≡ bytes_of_words (c.number_of-count.result ∷ []) ++ drop 4 content =
+    let laid : content ≡ bytes_of_words (c.little_endian-count.result ∷ []) ++ drop 4 content =
     grind (arith, common_steps) in
     let coded : bytes_of_words words ≡ drop 4 content = c.in-Ok.ensures.ok ∙ whole content in
     let count = c.in-Ok-decode_bytes.ensures.count in record {
@@ -38,7 +38,7 @@ returns-in-Ok-decode_bytes-clause-ok g c =
       short = omega (arith, count, c.if-count-gt-MOST_BYTES.false);
       words = words;
       read = c.in-Ok-decode_bytes.ensures.ok words known;
-      laid_out = laid ∙ ap (λ bs. bytes_of_words (c.number_of-count.result ∷ []) ++ bs) (sym coded)
+      laid_out = laid ∙ ap (λ bs. bytes_of_words (c.little_endian-count.result ∷ []) ++ bs) (sym coded)
           ∙ ap (λ n. bytes_of_words (n ∷ []) ++ bytes_of_words words) (sym count);
     }
 
@@ -49,11 +49,11 @@ returns-in-Err-Frontend-InvalidData-clause-accepted g c = λ bytes p.
     let words = c.in-Ok.words.items in
     let known : words ≡ drop source.result.pos source.result.buf.items =
     rw (ap (λ q. q.1) source.ensures, ap (λ q. q.0) source.ensures) refl in
-    let laid : content ≡ bytes_of_words (c.number_of-count.result ∷ []) ++ drop 4 content =
+    let laid : content ≡ bytes_of_words (c.little_endian-count.result ∷ []) ++ drop 4 content =
     grind (arith, common_steps) in
     let e = sym laid ∙ p.laid_out in
-    let count : length bytes ≡ c.number_of-count.result =
-    sym (number_once c.number_of-count.result (length bytes) _ _ e) in
+    let count : length bytes ≡ c.little_endian-count.result =
+    sym (number_once c.little_endian-count.result (length bytes) _ _ e) in
     let same : words ≡ p.words = bytes_once words p.words
     (c.in-Ok.ensures.ok ∙ whole content ∙ ap (drop 4) e) in
     let read : AreReadFrom g.P.Predictor.rows g.P.Predictor.next

@@ -1,7 +1,7 @@
 use Rattle.std.proofs.Common.{◌∷◌, ◌++◌, [], length, ap, ◌∙◌, arith, length-append}
 use Rattle.constriction_coders.specs.Bytes.{bytes_of_words}
 use Rattle.constriction_coders.specs.lemmas.Bytes.{length-bytes_of_words}
-use Rattle.constriction_pack.proofs.predicted.predicted.Goals as goal
+use Rattle.constriction_pack.proofs.predicted.by_predictor.Goals as goal
 
 pub returns-clause-coded : goal.returns-clause-coded
 returns-clause-coded g c = record {
