@@ -3,7 +3,7 @@
 ghost use Rattle.constriction.specs.Precision.{IsPrecision};
 
 use crate::coding::{
-    Refusal, queue_decode, queue_encode, stack_decode, stack_encode, symbols_of, words_of,
+    Refusal, queue_decode, queue_encode, stack_decode, stack_encode, to_symbols, to_words,
 };
 use crate::line::{Call, Request, parse};
 use std::alloc::{AllocError, Global};
@@ -20,7 +20,7 @@ enum Answer {
 fn encoded_at<const PRECISION: usize>(alloc: Global, request: &Request) -> Result<Vec<u32>, Refusal>
     requires { IsPrecision 32 PRECISION }
 {
-    let symbols = symbols_of(alloc, &request.numbers)?;
+    let symbols = to_symbols(alloc, &request.numbers)?;
     if request.call == Call::StackEncode {
         stack_encode::<PRECISION>(alloc, &request.weights, &symbols)
     } else {
@@ -35,7 +35,7 @@ fn decoded_at<const PRECISION: usize>(
 ) -> Result<Vec<usize>, Refusal>
     requires { IsPrecision 32 PRECISION }
 {
-    let Some(words) = words_of(alloc, &request.numbers)? else {
+    let Some(words) = to_words(alloc, &request.numbers)? else {
         return Err(Refusal::BadLine);
     };
     if request.call == Call::StackDecode {

@@ -36,7 +36,7 @@ impl From<AllocError> for Refusal {
 type Model<const PRECISION: usize> = ContiguousCategoricalEntropyModel<u32, Vec<u32>, PRECISION>;
 
 /// These numbers as words, if each is below `2^32`.
-pub(crate) fn words_of(alloc: Global, numbers: &[u64]) -> Result<Option<Vec<u32>>, AllocError> {
+pub(crate) fn to_words(alloc: Global, numbers: &[u64]) -> Result<Option<Vec<u32>>, AllocError> {
     let mut words = Vec::with_capacity(alloc, numbers.len())?;
     for number in numbers {
         match u32::try_from(*number) {
@@ -48,7 +48,7 @@ pub(crate) fn words_of(alloc: Global, numbers: &[u64]) -> Result<Option<Vec<u32>
 }
 
 /// These numbers as symbols.
-pub(crate) fn symbols_of(alloc: Global, numbers: &[u64]) -> Result<Vec<usize>, AllocError> {
+pub(crate) fn to_symbols(alloc: Global, numbers: &[u64]) -> Result<Vec<usize>, AllocError> {
     let mut symbols = Vec::with_capacity(alloc, numbers.len())?;
     for number in numbers {
         symbols.push(*number as usize)?;
@@ -63,7 +63,7 @@ fn contiguous_model_of<const PRECISION: usize>(
 ) -> Result<Model<PRECISION>, Refusal>
     requires { IsPrecision 32 PRECISION }
 {
-    let Some(weights) = words_of(alloc, weights)? else {
+    let Some(weights) = to_words(alloc, weights)? else {
         return Err(Refusal::Invalid);
     };
     match Model::<PRECISION>::from_nonzero_fixed_point_probabilities(alloc, weights, false) {

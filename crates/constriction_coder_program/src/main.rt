@@ -26,8 +26,8 @@ fn answer_lines(rt: &HostRuntime) -> Result<(), RunFault> {
     run_lines(rt.alloc(), &mut rt.reader(), io::writer(rt))
 }
 
-/// The status of a run, of which an error is said on standard error.
-fn status_of(rt: &HostRuntime, done: Result<(), RunFault>) -> ExitCode {
+/// The exit code of a run, of which an error is said on standard error.
+fn exit_code(rt: &HostRuntime, done: Result<(), RunFault>) -> ExitCode {
     match done {
         Ok(()) => ExitCode::SUCCESS,
         Err(error) => {
@@ -40,8 +40,8 @@ fn status_of(rt: &HostRuntime, done: Result<(), RunFault>) -> ExitCode {
 /// Does what the arguments ask for.
 fn run_action(rt: &HostRuntime, arguments: &Arguments) -> ExitCode {
     match arguments.action {
-        Action::Help => status_of(rt, rt.print(HELP).map_err(|_| RunFault::Write)),
-        Action::Lines => status_of(rt, answer_lines(rt)),
+        Action::Help => exit_code(rt, rt.print(HELP).map_err(|_| RunFault::Write)),
+        Action::Lines => exit_code(rt, answer_lines(rt)),
         Action::Pack | Action::Unpack | Action::Test => packing::run(rt, arguments),
     }
 }
@@ -55,7 +55,7 @@ fn words(rt: &HostRuntime) -> io::Result<Vec<String>> {
 fn main(rt: HostRuntime) -> ExitCode {
     let words = match words(&rt) {
         Ok(words) => words,
-        Err(error) if error.kind() == ErrorKind::OutOfMemory => return status_of(
+        Err(error) if error.kind() == ErrorKind::OutOfMemory => return exit_code(
             &rt,
             Err(RunFault::OutOfMemory),
         ),
@@ -66,8 +66,8 @@ fn main(rt: HostRuntime) -> ExitCode {
     };
     match parse(&words) {
         Ok(arguments) => run_action(&rt, &arguments),
-        Err(misuse) => {
-            let _ = eprintln!(rt; "coder: {misuse}");
+        Err(error) => {
+            let _ = eprintln!(rt; "coder: {error}");
             ExitCode::from(64)
         }
     }

@@ -38,7 +38,7 @@ pub(crate) fn publish(
 }
 
 /// Makes a file beside the output, and answers its name too.
-pub(crate) fn part_of(
+pub(crate) fn create_part(
     rt: &HostRuntime,
     output: &str,
     force: bool,

@@ -2,7 +2,7 @@
 
 use crate::arguments::{Action, Arguments};
 use crate::fault::{Failure, Fault};
-use crate::output::{part_of, publish};
+use crate::output::{create_part, publish};
 use crate::streams::{Source, Target};
 use constriction_pack::{Level, PackError, pack, unpack};
 use std::fs;
@@ -76,7 +76,7 @@ fn convert_to_file<'a>(
     source: &mut Source,
     output: &'a str,
 ) -> Result<(), Failure<'a>> {
-    let (part, mut target) = match part_of(rt, output, arguments.force) {
+    let (part, mut target) = match create_part(rt, output, arguments.force) {
         Ok(made) => made,
         Err(error) => {
             return Err(Failure {

@@ -1,5 +1,5 @@
-//! What is read and written: standard input and output, and files. Each keeps the last error of the
-//! system.
+//! What is read and written: standard input and output, and files. Each keeps the error of its last
+//! call.
 
 use std::fs::File;
 use std::io::{self, IsTerminal, Printer, Read, StdinLock, Write};
@@ -43,7 +43,7 @@ impl<'a> Source<'a> {
         })
     }
 
-    /// The error of the last read that failed.
+    /// The error of the last read, if it failed.
     pub(crate) fn error(&self) -> Option<io::Error> {
         self.error
     }
@@ -71,19 +71,14 @@ impl Read for Source<'_> {
             Origin::Standard(reader) => reader.read(buf),
             Origin::File(file) => file.read(buf),
         };
-        match result {
-            Ok(count) => {
-                self.read = self.read.saturating_add(count as u64);
-                if self.is_watched && self.read >= MEBIBYTE {
-                    self.say();
-                }
-                Ok(count)
-            }
-            Err(error) => {
-                self.error = Some(error);
-                Err(error)
+        self.error = result.err();
+        if let Ok(count) = result {
+            self.read = self.read.saturating_add(count as u64);
+            if self.is_watched && self.read >= MEBIBYTE {
+                self.say();
             }
         }
+        result
     }
 }
 
@@ -127,7 +122,7 @@ impl<'a> Target<'a> {
         }
     }
 
-    /// The error of the last write that failed.
+    /// The error of the last write, if it failed.
     pub(crate) fn error(&self) -> Option<io::Error> {
         self.error
     }
@@ -148,9 +143,7 @@ impl Write for Target<'_> {
             Destination::File(file) => file.write(buf),
             Destination::Nothing => Ok(buf.len()),
         };
-        if let Err(error) = result {
-            self.error = Some(error);
-        }
+        self.error = result.err();
         result
     }
 
