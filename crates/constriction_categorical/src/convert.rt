@@ -112,10 +112,8 @@ where
     requires { M.is_equality M.Symbol.eq }
     ensures { IsMadeIfApart M.Symbol.eq M.stands_for decoder_model_rows (M.rows model) result }
 {
-    match entries_of_model(alloc, model) {
-        Ok(entries) => Ok(decoder_over(entries)),
-        Err(error) => Err(error),
-    }
+    let entries = entries_of_model(alloc, model)?;
+    Ok(decoder_over(entries))
 }
 
 /// As [`to_generic_decoder_model`], but each symbol is compared with all before it, whatever the
@@ -129,10 +127,8 @@ where
     M::Symbol: Eq + Drop,
     ensures { IsMadeIfApart M.Symbol.eq M.stands_for decoder_model_rows (M.rows model) result }
 {
-    match compared_entries_of_model(alloc, model) {
-        Ok(entries) => Ok(decoder_over(entries)),
-        Err(error) => Err(error),
-    }
+    let entries = compared_entries_of_model(alloc, model)?;
+    Ok(decoder_over(entries))
 }
 
 /// The lookup model of the decoder that [`to_generic_decoder_model`] makes. `OutOfMemory` comes
@@ -167,10 +163,8 @@ where
     requires equality { M.is_equality M.Symbol.eq }
     ensures { IsMadeIfApart M.Symbol.eq M.stands_for lookup_model_rows (M.rows model) result }
 {
-    match to_generic_decoder_model::<M, PRECISION>(alloc, model) {
-        Ok(searching) => lookup_over(alloc, searching),
-        Err(error) => Err(error),
-    }
+    let searching = to_generic_decoder_model::<M, PRECISION>(alloc, model)?;
+    lookup_over(alloc, searching)
 }
 
 impl<

@@ -147,15 +147,13 @@ impl<
             infer_last_probability S.into_iter_gives S.IntoIter.next_gives symbols P.into_iter_gives
             P.IntoIter.next_gives probabilities result }
     {
-        match entries_of_distinct::<Probability, Symbol, S, P, PRECISION>(
+        let entries = entries_of_distinct::<Probability, Symbol, S, P, PRECISION>(
             alloc,
             symbols,
             probabilities,
             infer_last_probability,
-        ) {
-            Ok(entries) => Ok(decoder_over(entries)),
-            Err(error) => Err(error),
-        }
+        )?;
+        Ok(decoder_over(entries))
     }
 
     /// As [`Self::from_symbols_and_nonzero_fixed_point_probabilities`], for symbols that have a
@@ -184,15 +182,13 @@ impl<
             infer_last_probability S.into_iter_gives S.IntoIter.next_gives symbols P.into_iter_gives
             P.IntoIter.next_gives probabilities result }
     {
-        match entries_hashed::<Probability, Symbol, S, P, PRECISION>(
+        let entries = entries_hashed::<Probability, Symbol, S, P, PRECISION>(
             alloc,
             symbols,
             probabilities,
             infer_last_probability,
-        ) {
-            Ok(entries) => Ok(decoder_over(entries)),
-            Err(error) => Err(error),
-        }
+        )?;
+        Ok(decoder_over(entries))
     }
 }
 
@@ -224,14 +220,12 @@ impl<
             infer_last_probability S.into_iter_gives S.IntoIter.next_gives symbols P.into_iter_gives
             P.IntoIter.next_gives probabilities result }
     {
-        match entries_in_order::<Probability, Symbol, S, P, PRECISION>(
+        let entries = entries_in_order::<Probability, Symbol, S, P, PRECISION>(
             alloc,
             symbols,
             probabilities,
             infer_last_probability,
-        ) {
-            Ok(entries) => Ok(decoder_over(entries)),
-            Err(error) => Err(error),
-        }
+        )?;
+        Ok(decoder_over(entries))
     }
 }

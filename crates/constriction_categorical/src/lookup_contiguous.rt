@@ -87,15 +87,12 @@ impl<
             probabilities Probability.whole (λ m ws. lookup_model_rows m ≡ contiguous_rows ws)
             result }
     {
-        match ContiguousCategoricalEntropyModel::<
+        let model = ContiguousCategoricalEntropyModel::<
             Probability,
             Vec<Probability>,
             PRECISION,
-        >::from_nonzero_fixed_point_probabilities(alloc, probabilities, infer_last_probability)
-        {
-            Ok(model) => lookup_over(alloc, model),
-            Err(error) => Err(error),
-        }
+        >::from_nonzero_fixed_point_probabilities(alloc, probabilities, infer_last_probability)?;
+        lookup_over(alloc, model)
     }
 }
 
@@ -114,13 +111,11 @@ impl<Probability: IndexWord, const PRECISION: usize, const SLOT_BITS: usize> Clo
     /// Two allocations, and one copy of each.
     fn clone(&self) -> Result<Self, AllocError> {
         let lookup_table = copy_of(*self.lookup_table.allocator(), self.lookup_table.as_slice())?;
-        match self.model.clone() {
-            Ok(model) => Ok(Self {
-                model,
-                lookup_table,
-            }),
-            Err(error) => Err(error),
-        }
+        let model = self.model.clone()?;
+        Ok(Self {
+            model,
+            lookup_table,
+        })
     }
 }
 

@@ -120,7 +120,7 @@ impl<
             symbols P.into_iter_gives P.IntoIter.next_gives probabilities Probability.whole
             (λ m ss ws. lookup_model_rows m ≡ rows_of ss ws) result }
     {
-        match NonContiguousCategoricalDecoderModel::<
+        let model = NonContiguousCategoricalDecoderModel::<
             Symbol,
             Probability,
             Vec<(Probability, Symbol)>,
@@ -130,10 +130,8 @@ impl<
             symbols,
             probabilities,
             infer_last_probability,
-        ) {
-            Ok(model) => lookup_over(alloc, model),
-            Err(error) => Err(error),
-        }
+        )?;
+        lookup_over(alloc, model)
     }
 }
 
@@ -155,13 +153,11 @@ impl<
             StandForRows Symbol.is_clone (lookup_model_rows m) (lookup_model_rows self.now)) }
     {
         let lookup_table = copy_of(*self.lookup_table.allocator(), self.lookup_table.as_slice())?;
-        match self.model.clone() {
-            Ok(model) => Ok(Self {
-                model,
-                lookup_table,
-            }),
-            Err(error) => Err(error),
-        }
+        let model = self.model.clone()?;
+        Ok(Self {
+            model,
+            lookup_table,
+        })
     }
 }
 

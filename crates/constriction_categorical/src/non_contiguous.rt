@@ -175,15 +175,13 @@ impl<
             infer_last_probability S.into_iter_gives S.IntoIter.next_gives symbols P.into_iter_gives
             P.IntoIter.next_gives probabilities result }
     {
-        match entries_compared::<Probability, Symbol, S, P, PRECISION>(
+        let entries = entries_compared::<Probability, Symbol, S, P, PRECISION>(
             alloc,
             symbols,
             probabilities,
             infer_last_probability,
-        ) {
-            Ok(entries) => Ok(decoder_over(entries)),
-            Err(error) => Err(error),
-        }
+        )?;
+        Ok(decoder_over(entries))
     }
 
     /// A copy of the model, with clones of the symbols. Its entries come from the allocator of this
@@ -302,10 +300,8 @@ impl<
         ensures { IfOk result (λ m.
             StandForRows Symbol.is_clone (decoder_model_rows m) (decoder_model_rows self.now)) }
     {
-        match self.cloned_entries(alloc) {
-            Ok(entries) => Ok(decoder_over(entries)),
-            Err(error) => Err(error),
-        }
+        let entries = self.cloned_entries(alloc)?;
+        Ok(decoder_over(entries))
     }
 }
 

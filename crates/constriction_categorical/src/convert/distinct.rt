@@ -57,10 +57,8 @@ where
     ensures { IsMadeIfMemorySuffices
         (λ d. StandApart M.Symbol.eq M.stands_for (decoder_model_rows d) (M.rows model)) result }
 {
-    match uncompared_entries_of_model(alloc, model) {
-        Ok(entries) => Ok(decoder_over(entries)),
-        Err(error) => Err(error),
-    }
+    let entries = uncompared_entries_of_model(alloc, model)?;
+    Ok(decoder_over(entries))
 }
 
 /// The lookup model of the decoder that [`to_generic_decoder_model_of_distinct`] makes.
@@ -81,8 +79,6 @@ where
     ensures { IsMadeIfMemorySuffices
         (λ d. StandApart M.Symbol.eq M.stands_for (lookup_model_rows d) (M.rows model)) result }
 {
-    match to_generic_decoder_model_of_distinct::<M, PRECISION>(alloc, model) {
-        Ok(searching) => searching.into_lookup_decoder_model(alloc),
-        Err(error) => Err(error),
-    }
+    let searching = to_generic_decoder_model_of_distinct::<M, PRECISION>(alloc, model)?;
+    searching.into_lookup_decoder_model(alloc)
 }

@@ -9,8 +9,8 @@ invariant_of-result g c =
       narrow = c.args.self.now.narrow;
       slots =
           rw (
-            lefts-made g.Symbol.Clone.is_clone (rows c.in-Ok.model.cdf.items)
-                (rows c.args.self.now.model.cdf.items) c.in-Ok.ensures,
+            lefts-made g.Symbol.Clone.is_clone (rows c.in_ok-model.model.cdf.items)
+                (rows c.args.self.now.model.cdf.items) c.in_ok-model.ensures,
             c.in_ok-lookup_table.ensures,
             c.as_slice.ensures.value,
           ) c.args.self.now.slots;
