@@ -8,7 +8,6 @@ use Rattle.std.proofs.lemmas.List.Elements.{All-push, All-nil, All-contains, Con
 use Rattle.std.proofs.lemmas.List.Sums.{sum_by-cons, sum_by-append, sum_by_push}
 use Rattle.constriction_model.specs.Acceptance.{IsAccepted, completed, ToItsEnd, SoFar}
 use Rattle.constriction_model.specs.lemmas.Walks.{yields-more}
-use Rattle.constriction_model.specs.Precision.{IsPrecision}
 use Rattle.constriction_stored_rows.specs.Stored.{lefts_from, total_of}
 use Rattle.constriction_stored_rows.specs.private.Filling.{AreNotTaken, IsBegun, IsFilled, IsRowEnd}
 use Rattle.constriction_stored_rows.specs.private.Given.{GaveGood}
@@ -185,22 +184,6 @@ wrapped n last w is range = elim (cases_lt (last + 1) n) [
       let zero_left : (last + 1) % n ≡ 0 = rw end (mod_self n) in
       inl (omega (arith, is, zero_left), end)
 ]
-
--- the greatest word of one bit is 1, and words have that bit
-pub one_is : (n : ℕ) → n + 1 ≡ 2 ^ 1 → n ≡ 1
-one_is n e = omega arith
-
--- a word has at least one bit
-pub one_fits : (bits precision : ℕ) → IsPrecision bits precision → 1 ≤ bits
-one_fits bits precision p = omega (arith, p.positive, p.fits)
-
--- what is left after the first quantile of a row is a word, and so is the end of a row that leaves some
-pub room_below : (left room all bits : ℕ) → left + room + 1 ≡ all → all ≤ bits → room < bits
-room_below left room all bits is narrow = omega arith
-
--- a row that leaves room ends within the words
-pub end_below : (left weight room all bits : ℕ) → left + room + 1 ≡ all → all ≤ bits → weight ≤ room → left + weight < bits
-end_below left weight room all bits is narrow less = omega arith
 
 -- before the first weight all quantiles are left
 pub begun-none : {S W : Type 0} (steps : S → Option W → S → Type 0) (it : S) (whole : W → ℕ) (bits precision : ℕ) (left : W) (room : ℕ)
