@@ -9,7 +9,6 @@ pub mod any_symbols;
 pub mod contiguous;
 pub mod conversions;
 pub mod given;
-pub mod intervals;
 pub mod lent;
 pub mod lookup_any_symbols;
 pub mod marked;
