@@ -31,8 +31,6 @@ pub const SYMBOLS: [char; 4] = ['a', 'x', 'c', 'y'];
 
 pub const WEIGHTS: [u8; 4] = [3, 18, 1, 42];
 
-pub const ROWS: [Row; 4] = [('a', 0, 3), ('x', 3, 18), ('c', 21, 1), ('y', 22, 42)];
-
 /// The decoder model of these letters and weights.
 pub fn decoder<const PRECISION: usize>(
     alloc: Global,
