@@ -95,7 +95,7 @@ fn size(model: &Weighted<6>) -> usize
 }
 
 /// How many symbols a decoder of letters has.
-fn letters(model: &Decoder) -> usize
+fn number_of_letters(model: &Decoder) -> usize
     requires { ⟦<Decoder as EntropyModel<6>>⟧.rows model.now
         ≡ rows_of (97 ∷ 120 ∷ 99 ∷ 121 ∷ []) (3 ∷ 18 ∷ 1 ∷ 42 ∷ []) }
     ensures { result ≡ 4 }
@@ -355,7 +355,7 @@ fn contracts_leave_one_answer_over_letters(rt: HostRuntime) {
     let model = model.expect(&rt, "accepted");
     same(&rt, letter_of_20(&model), Ok(('x', 3, 18)));
     same(&rt, letters_at_the_ends(&model), (Some('a'), Some('y'), 2));
-    same(&rt, letters(&model), 4);
+    same(&rt, number_of_letters(&model), 4);
     leaves_one_entry(&rt, rt.alloc(), &model);
 }
 

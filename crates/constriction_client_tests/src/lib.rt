@@ -16,6 +16,8 @@ mod known;
 #[cfg(test)]
 mod known_models;
 #[cfg(test)]
+mod known_theorem;
+#[cfg(test)]
 mod own_ends;
 #[cfg(test)]
 mod queries;

@@ -1,2 +1,3 @@
 mod Making
+mod Uniform
 mod Walking

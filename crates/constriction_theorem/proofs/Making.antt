@@ -20,6 +20,12 @@ pub never-invalid : {A P : Type 0} (r : Result A ModelError) → IfErr r (λ e. 
 never-invalid (Ok x) refused is = absurd (cc)
 never-invalid (Err e) refused is = absurd (cc)
 
+-- an error that is handed on is found as the call found it
+pub handed-on : {Made Answers Accepted : Type 0} {Tells : Answers → Type 0} (r : Result Made ModelError) (s : Result Answers ModelError)
+    (e f : ModelError) → r ≡ Err e → s ≡ Err f → f ≡ e → (r ≡ Err InvalidTable → ¬ Accepted) → IsDecidedBy s Accepted Tells
+handed-on r (Ok x) e f was is same invalid = absurd (cc)
+handed-on r (Err g) e f was is same invalid = record { accepted = tt; answers = tt; invalid = λ wrong. invalid (cc) }
+
 -- want of memory decides nothing
 pub refused-decided : {Answers Accepted : Type 0} {Tells : Answers → Type 0} (r : Result Answers ModelError) → r ≡ Err OutOfMemory
     → IsDecidedBy r Accepted Tells

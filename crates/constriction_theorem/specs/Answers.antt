@@ -1,16 +1,15 @@
 -- What a form replies after steps, and what the models of one row list reply. Replies have numbers in the place of words.
-use Rattle.std.specs.Prelude.{◌≡◌, ℕ, Bool, false, nat_eq, List, fold, map, Result, Err, IfOk}
+use Rattle.std.specs.Prelude.{◌≡◌, ◌↔◌, ℕ, ◌≤◌, Bool, false, List, All, length, fold, map, IsSome, IfSome, Result, Err, IfOk}
 use Rattle.constriction_model.specs.Model.{StandForRows, ClonesAreSame}
+use Rattle.constriction_model.specs.Probe.{digits}
 use Rattle.constriction_model.specs.Rows.{Row, uniform_rows}
 use Rattle.constriction_model.specs.declared.ModelError.{ModelError}
 use Rattle.constriction_model.specs.declared.ModelError.TheVariants.{InvalidTable}
 use Rattle.constriction_client.specs.Chains.{is_lookup, is_lookup_after, ChainLeaves}
 use Rattle.constriction_client.specs.declared.chain.ChainStep.{ChainStep}
 use Rattle.constriction_client.specs.declared.decoder_form.SearchOrLookup.{SearchOrLookup}
-use Rattle.constriction_client.specs.declared.queries.Query.{Query}
 use Rattle.constriction_client.specs.declared.queries.Reply.{Reply}
-use Rattle.constriction_client.specs.Replies.{in_numbers, replies_by_scan, AreRepliesOf}
-use Rattle.constriction_theorem.specs.declared.models.AnswersOfModel.{AnswersOfModel}
+use Rattle.constriction_client.specs.Replies.{AreRepliesOf}
 use Rattle.constriction_theorem.specs.declared.searches.AnswersBySearch.{AnswersBySearch}
 use Rattle.constriction_theorem.specs.declared.weights.AnswersOfWeights.{AnswersOfWeights}
 use Rattle.constriction_theorem.specs.declared.weights.RepliesByEncoder.{RepliesByEncoder}
@@ -50,23 +49,18 @@ pub record BothReplyAsScan {Word Weight Decoder : Type 0} (in_numbers : Reply �
   pub non_contiguous : ReplyAsScan in_numbers (scan rows) answers.non_contiguous
   pub same : rows_of answers.decoder ≡ rows
 
--- the model that searches, the model with a lookup table and the form that steps leave reply as a scan of these rows does
+-- All models of a row list reply as a scan of these rows does: the dividing model, which there is exactly if the rows are uniform rows of
+-- two symbols or more, the model that searches, the model with a lookup table, and the form that steps leave. For each reply, a search
+-- asks no more questions than the number of rows has binary digits.
 pub record AllReplyAsScan {Word Weight Searching Tabled : Type 0} (in_numbers : Reply ℕ Word Weight → Reply ℕ ℕ ℕ)
     (scan : List (Row ℕ) → List (Reply ℕ ℕ ℕ)) (steps : List ChainStep) (rows_of_form : SearchOrLookup Searching Tabled → List (Row ℕ))
-    (rows : List (Row ℕ)) (answers : AnswersOfWeights Word (SearchOrLookup Searching Tabled) Weight) : Type 0 where
+    (precision : ℕ) (rows : List (Row ℕ)) (answers : AnswersOfWeights Word (SearchOrLookup Searching Tabled) Weight) : Type 0 where
+  pub divides : IsSome answers.dividing ↔ ((n : ℕ) × (2 ≤ n) × (rows ≡ uniform_rows precision n))
+  pub dividing : IfSome answers.dividing (ReplyAsScan in_numbers (scan rows))
   pub searching : ReplyAsScan in_numbers (scan rows) answers.searching
   pub tabled : ReplyAsScan in_numbers (scan rows) answers.tabled
   pub converted : ReplyAsScan in_numbers (scan rows) answers.converted
   pub kind : is_lookup answers.form ≡ fold is_lookup_after false steps
   pub same : rows_of_form answers.form ≡ rows
-
--- the dividing model of a range, and the form that steps leave of its rows, reply as a scan of these rows does
-pub record AnswersOfRange {Weight Searching Tabled : Type 0} (precision range : ℕ) (steps : List ChainStep) (queries : List (Query ℕ ℕ))
-    (base : Weight → ℕ) (rows_of_form : SearchOrLookup Searching Tabled → List (Row ℕ))
-    (answers : AnswersOfModel ℕ ℕ (SearchOrLookup Searching Tabled) Weight) : Type 0 where
-  pub dividing : map (in_numbers (λ w. w) base) answers.by_model.items
-      ≡ replies_by_scan precision (λ w. w) nat_eq queries (uniform_rows precision range)
-  pub kind : is_lookup answers.form ≡ fold is_lookup_after false steps
-  pub rows : rows_of_form answers.form ≡ uniform_rows precision range
-  pub converted : map (in_numbers (λ w. w) base) answers.converted.items
-      ≡ replies_by_scan precision (λ w. w) nat_eq queries (uniform_rows precision range)
+  pub counted : length answers.questions.items ≡ length (scan rows)
+  pub few : All (λ asked. asked ≤ digits (length rows)) answers.questions.items

@@ -1,21 +1,19 @@
 //! Models that are made of lists and of other models, each by one call, with contracts over lists
 //! and rows.
 
-ghost use Rattle.std.specs.Prelude.{◌≡◌, map, nat_eq, IfOk, IfErr};
-ghost use Rattle.std.specs.List.{IsDistinct};
+ghost use Rattle.std.specs.Prelude.{◌≡◌, map, IfOk, IfErr};
 ghost use Rattle.constriction_model.specs.Acceptance.{completed, IsAccepted, AreAccepted};
 ghost use Rattle.constriction_conversions.specs.EncoderRows.{encoder_model_rows};
-ghost use Rattle.constriction_model.specs.Entries.{HoldsEntriesOf, SameEntries};
-ghost use Rattle.constriction_model.specs.Model.{StandForRows, ClonesAreEqual};
+ghost use Rattle.constriction_model.specs.Entries.{SameEntries};
+ghost use Rattle.constriction_model.specs.Model.{ClonesAreEqual};
 ghost use Rattle.constriction_categorical.specs.ModelRows.{contiguous_model_rows, decoder_model_rows};
 ghost use Rattle.constriction_model.specs.Precision.{IsPrecision};
-ghost use Rattle.constriction_model.specs.Rows.{contiguous_rows, rows_of, symbols_of};
+ghost use Rattle.constriction_model.specs.Rows.{contiguous_rows, rows_of};
 
 use constriction_categorical::{
     ContiguousCategoricalEntropyModel, IterableEntropyModel, NonContiguousCategoricalDecoderModel,
     to_generic_decoder_model_of_distinct,
 };
-use constriction_client::laws::DecoderAndEncoder;
 use constriction_conversions::{NonContiguousCategoricalEncoderModel, to_generic_encoder_model};
 use constriction_model::ModelError;
 use constriction_model::laws::contiguous_symbols_differ;
@@ -82,6 +80,20 @@ pub(crate) fn contiguous_from<Probability: WholeNumber, const PRECISION: usize>(
     Contiguous::from_nonzero_fixed_point_probabilities(alloc, weights, infer_last_probability)
 }
 
+/// The searching decoder of the rows of a model of the symbols 0, 1, ...
+pub(crate) fn decoder_of<Probability: WholeNumber, const PRECISION: usize>(
+    alloc: Global,
+    model: &Contiguous<Probability, PRECISION>,
+) -> Result<Searching<usize, Probability, PRECISION>, ModelError>
+    ensures rows { IfOk result (λ decoder.
+        decoder_model_rows decoder ≡ contiguous_model_rows model.now) }
+    ensures refused { IfErr result (λ e. e ≡ ModelError.OutOfMemory) }
+{
+    contiguous_symbols_differ();
+    let decoder = to_generic_decoder_model_of_distinct::<_, PRECISION>(alloc, model)?;
+    Ok(decoder)
+}
+
 /// The hashed encoder of the rows of a model that can be walked through.
 pub(crate) fn encoder_of<M, const PRECISION: usize>(
     alloc: Global,
@@ -90,64 +102,10 @@ pub(crate) fn encoder_of<M, const PRECISION: usize>(
 where
     M: IterableEntropyModel<PRECISION>,
     M::Symbol: Hash + Eq + Drop,
+    requires { ClonesAreEqual M.Symbol.eq M.stands_for }
     ensures entries { IfOk result (λ e.
-        HoldsEntriesOf M.Symbol.eq M.stands_for (encoder_model_rows e) (M.rows model)) }
+        SameEntries M.Symbol.eq (encoder_model_rows e) (M.rows model)) }
     ensures refused { IfErr result (λ e. e ≡ ModelError.OutOfMemory) }
 {
     to_generic_encoder_model::<M, PRECISION>(alloc, model)
-}
-
-/// The hashed encoder of a searching decoder's rows, with clones of their symbols.
-pub(crate) fn hashed_of<
-    Symbol: Hash + Eq + Clone + Drop,
-    Probability: WholeNumber,
-    const PRECISION: usize,
->(
-    alloc: Global,
-    model: &Searching<Symbol, Probability, PRECISION>,
-) -> Result<NonContiguousCategoricalEncoderModel<Symbol, Probability, PRECISION>, ModelError>
-    requires { ClonesAreEqual Symbol.eq Symbol.is_clone }
-    ensures entries { IfOk result (λ e.
-        SameEntries Symbol.eq (encoder_model_rows e) (decoder_model_rows model.now)) }
-    ensures refused { IfErr result (λ e. e ≡ ModelError.OutOfMemory) }
-{
-    encoder_of(alloc, model)
-}
-
-/// The searching decoder and the hashed encoder of a model's rows. No two symbols of the rows are
-/// equal.
-pub(crate) fn both_of<M, const PRECISION: usize>(
-    alloc: Global,
-    model: M,
-) -> Result<DecoderAndEncoder<M::Symbol, M::Probability, PRECISION>, ModelError>
-where
-    M: IterableEntropyModel<PRECISION> + Copy,
-    M::Symbol: Hash + Eq + Drop,
-    requires clones { ClonesAreEqual M.Symbol.eq M.stands_for }
-    requires distinct { IsDistinct M.Symbol.eq (symbols_of (M.rows model)) }
-    ensures rows { IfOk result (λ both.
-        StandForRows M.stands_for (decoder_model_rows both.0) (M.rows model)) }
-    ensures alike { IfOk result (λ both.
-        SameEntries M.Symbol.eq (encoder_model_rows both.1) (decoder_model_rows both.0)) }
-    ensures refused { IfErr result (λ e. e ≡ ModelError.OutOfMemory) }
-{
-    let decoder = to_generic_decoder_model_of_distinct::<M, PRECISION>(alloc, model)?;
-    let encoder = encoder_of::<M, PRECISION>(alloc, model)?;
-    Ok((decoder, encoder))
-}
-
-/// The searching decoder and the hashed encoder of the rows of a model of the symbols 0, 1, ...
-pub(crate) fn both_of_contiguous<Probability: WholeNumber, const PRECISION: usize>(
-    alloc: Global,
-    model: &Contiguous<Probability, PRECISION>,
-) -> Result<DecoderAndEncoder<usize, Probability, PRECISION>, ModelError>
-    ensures rows { IfOk result (λ both.
-        decoder_model_rows both.0 ≡ contiguous_model_rows model.now) }
-    ensures entries { IfOk result (λ both.
-        SameEntries nat_eq (encoder_model_rows both.1) (contiguous_model_rows model.now)) }
-    ensures refused { IfErr result (λ e. e ≡ ModelError.OutOfMemory) }
-{
-    contiguous_symbols_differ();
-    let (decoder, encoder) = both_of(alloc, model)?;
-    Ok((decoder, encoder))
 }

@@ -10,8 +10,8 @@ ghost use Rattle.constriction_client.specs.Replies.{in_numbers, replies_by_scan,
 ghost use Rattle.constriction_theorem.specs.Answers.{AnswersAfter};
 
 use crate::forms::{FormAndReplies, answer_by_form};
-use crate::made::{both_of, encoder_of};
-use constriction_categorical::IterableEntropyModel;
+use crate::made::encoder_of;
+use constriction_categorical::{IterableEntropyModel, to_generic_decoder_model_of_distinct};
 use constriction_client::{ChainStep, DecoderForm, Query, Reply, answer_queries};
 use constriction_model::{DecoderModel, ModelError};
 use constriction_words::{IndexWord, WholeNumber};
@@ -28,7 +28,7 @@ pub fn answer_by_symbol_table<M, const PRECISION: usize>(
     queries: &[Query<M::Symbol, M::Probability>],
 ) -> Result<FormAndReplies<M::Symbol, M::Probability, PRECISION>, ModelError>
 where
-    M: IterableEntropyModel<PRECISION> + Copy,
+    M: IterableEntropyModel<PRECISION>,
     M::Symbol: Hash + Eq + Clone + Drop,
     M::Probability: IndexWord,
     requires narrow { PRECISION ≤ 63 }
@@ -41,7 +41,8 @@ where
         (map (in_numbers M.Probability.whole M.Probability.base) both.1.items)) }
     ensures refused { IfErr result (λ e. e ≡ ModelError.OutOfMemory) }
 {
-    let (decoder, encoder) = both_of::<M, PRECISION>(alloc, model)?;
+    let decoder = to_generic_decoder_model_of_distinct::<M, PRECISION>(alloc, model)?;
+    let encoder = encoder_of(alloc, &decoder)?;
     answer_by_form(
         alloc,
         DecoderForm::Search(decoder),

@@ -8,7 +8,7 @@ ghost use Rattle.constriction_model.specs.Precision.{IsPrecision};
 ghost use Rattle.constriction_client.specs.Replies.{in_numbers, replies_by_scan};
 ghost use Rattle.constriction_theorem.specs.Answers.{BothReplyAsScan, IsDecidedBy};
 
-use crate::made::{Contiguous, Searching, both_of_contiguous, contiguous_from};
+use crate::made::{Contiguous, Searching, contiguous_from, decoder_of, encoder_of};
 use crate::weights::{RepliesByEncoder, asked_beside_both};
 use constriction_categorical::NonContiguousCategoricalDecoderModel;
 use constriction_client::Query;
@@ -38,7 +38,8 @@ fn asked_by_search<Probability: WholeNumber, const PRECISION: usize>(
         (contiguous_model_rows model.now)) }
     ensures refused { IfErr result (λ e. e ≡ ModelError.OutOfMemory) }
 {
-    let (decoder, hashed) = both_of_contiguous(alloc, model)?;
+    let decoder = decoder_of(alloc, model)?;
+    let hashed = encoder_of(alloc, model)?;
     let contiguous = asked_beside_both(alloc, model, model, &hashed, queries)?;
     let non_contiguous = asked_beside_both(alloc, &decoder, model, &hashed, queries)?;
     Ok(AnswersBySearch {

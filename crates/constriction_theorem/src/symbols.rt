@@ -11,7 +11,7 @@ ghost use Rattle.constriction_client.specs.Replies.{in_numbers, replies_by_scan}
 ghost use Rattle.constriction_theorem.specs.Answers.{AnswersAfter, IsDecidedBy};
 
 use crate::forms::{FormAndReplies, answer_by_form};
-use crate::made::{hashed_of, searching_from};
+use crate::made::{encoder_of, searching_from};
 use constriction_client::{ChainStep, DecoderForm, Query};
 use constriction_model::ModelError;
 use constriction_words::IndexWord;
@@ -49,7 +49,7 @@ pub fn answer_from_symbols_and_weights<
         weights,
         infer_last_probability,
     )?;
-    let encoder = hashed_of(alloc, &searching)?;
+    let encoder = encoder_of(alloc, &searching)?;
     answer_by_form(
         alloc,
         DecoderForm::Search(searching),

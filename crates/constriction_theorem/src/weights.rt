@@ -1,19 +1,22 @@
 //! Weights, and what the models of the symbols 0, 1, .. reply.
 
-ghost use Rattle.std.specs.Prelude.{◌≡◌, ◌≤◌, fold, map, nat_eq, false, IfOk, IfErr};
+ghost use Rattle.std.specs.Prelude.{◌≡◌, ◌↔◌, ◌≤◌, ℕ, fold, map, nat_eq, false, IfOk, IfErr, IfSome, IsSome};
 ghost use Rattle.constriction_model.specs.Acceptance.{completed, IsAccepted};
 ghost use Rattle.constriction_conversions.specs.EncoderRows.{encoder_model_rows};
 ghost use Rattle.constriction_model.specs.Entries.{SameEntries};
 ghost use Rattle.constriction_model.specs.Model.{ClonesAreEqual, ClonesAreSame};
 ghost use Rattle.constriction_categorical.specs.ModelRows.{contiguous_model_rows, decoder_model_rows};
-ghost use Rattle.constriction_model.specs.Rows.{contiguous_rows};
+ghost use Rattle.constriction_model.specs.Rows.{contiguous_rows, uniform_rows};
 ghost use Rattle.constriction_model.specs.Precision.{IsLookupPrecision};
 ghost use Rattle.constriction_client.specs.Chains.{is_lookup, is_lookup_after};
 ghost use Rattle.constriction_client.specs.FormRows.{form_rows};
 ghost use Rattle.constriction_client.specs.Replies.{in_numbers, replies_by_scan};
+ghost use Rattle.constriction_theorem.specs.private.Ranges.{IsRangeOf};
 ghost use Rattle.constriction_theorem.specs.Answers.{AllReplyAsScan, IsDecidedBy, ReplyAsScan};
 
-use crate::made::{Contiguous, Searching, both_of_contiguous, contiguous_from};
+use crate::counted::questions_of;
+use crate::dividing::{DividingWord, range_of};
+use crate::made::{Contiguous, Searching, contiguous_from, decoder_of, encoder_of};
 use constriction_client::{ChainStep, DecoderForm, Query, Reply, answer_queries, convert_chain};
 use constriction_conversions::NonContiguousCategoricalEncoderModel;
 use constriction_model::{DecoderModel, EncoderModel, ModelError};
@@ -23,7 +26,8 @@ use std::alloc::{AllocError, Global};
 /// What a decoder replied beside each of two encoders.
 #[derive(Drop)]
 pub struct RepliesByEncoder<Word: WholeNumber> {
-    /// Beside the model of the symbols 0, 1, .. that searches.
+    /// Beside the model of the symbols 0, 1, .. that searches, or, of a model that divides, beside
+    /// itself.
     pub contiguous: Vec<Reply<usize, Word>>,
     /// Beside the hashed encoder.
     pub hashed: Vec<Reply<usize, Word>>,
@@ -32,6 +36,8 @@ pub struct RepliesByEncoder<Word: WholeNumber> {
 /// What the models of one list of weights replied to the same queries.
 #[derive(Drop)]
 pub struct AnswersOfWeights<Word: WholeNumber, Form> {
+    /// The model that divides, if one has these weights.
+    pub dividing: Option<RepliesByEncoder<Word>>,
     /// The model that searches all rows.
     pub searching: RepliesByEncoder<Word>,
     /// The model with a lookup table of as many slots as the caller asked for.
@@ -40,6 +46,8 @@ pub struct AnswersOfWeights<Word: WholeNumber, Form> {
     pub form: Form,
     /// The replies of that form.
     pub converted: RepliesByEncoder<Word>,
+    /// How many questions a search asks for each query: none if that is no quantile.
+    pub questions: Vec<usize>,
 }
 
 /// The replies of a decoder beside each of two encoders of its rows.
@@ -89,7 +97,7 @@ fn form_after<Probability: IndexWord, const PRECISION: usize>(
     convert_chain(alloc, DecoderForm::Search(decoder), steps)
 }
 
-/// The form that the steps leave of a model's rows, and the hashed encoder of the same rows.
+/// The form that the steps leave of a model's rows, and the hashed encoder that is made of it.
 fn converted_from<Probability: IndexWord, const PRECISION: usize>(
     alloc: Global,
     model: &Contiguous<Probability, PRECISION>,
@@ -108,8 +116,9 @@ fn converted_from<Probability: IndexWord, const PRECISION: usize>(
         SameEntries nat_eq (encoder_model_rows both.1) (contiguous_model_rows model.now)) }
     ensures refused { IfErr result (λ e. e ≡ ModelError.OutOfMemory) }
 {
-    let (decoder, hashed) = both_of_contiguous(alloc, model)?;
+    let decoder = decoder_of(alloc, model)?;
     let form = form_after(alloc, decoder, steps)?;
+    let hashed = encoder_of(alloc, &form)?;
     Ok((form, hashed))
 }
 
@@ -166,39 +175,78 @@ fn asked_by_each<Probability: IndexWord, const PRECISION: usize, const SLOT_BITS
     Ok((by_search, by_table, by_form))
 }
 
-/// The replies of all models of a model's rows.
-fn answers_of<Probability: IndexWord, const PRECISION: usize, const SLOT_BITS: usize>(
+/// The replies of the model that divides, if there is one.
+fn asked_by_dividing<Probability: DividingWord<PRECISION>, const PRECISION: usize>(
     alloc: Global,
     model: &Contiguous<Probability, PRECISION>,
+    range: Option<usize>,
+    hashed: &NonContiguousCategoricalEncoderModel<usize, Probability, PRECISION>,
+    queries: &[Query<usize, Probability>],
+) -> Result<Option<RepliesByEncoder<Probability>>, AllocError>
+    requires precision { IsLookupPrecision Probability.BITS PRECISION }
+    requires range { IsRangeOf PRECISION (contiguous_model_rows model.now) range }
+    requires hashed { SameEntries nat_eq (encoder_model_rows hashed.now)
+        (contiguous_model_rows model.now) }
+    ensures divides { IfOk result (λ replies. IsSome replies
+        ↔ ((n : ℕ) × (2 ≤ n) × (contiguous_model_rows model.now ≡ uniform_rows PRECISION n))) }
+    ensures dividing { IfOk result (λ replies. IfSome replies
+        (ReplyAsScan (in_numbers Probability.whole Probability.base) (replies_by_scan PRECISION
+        Probability.whole nat_eq queries.now (contiguous_model_rows model.now)))) }
+{
+    match range {
+        Some(range) => {
+            let replies = Probability::asked_by_division(alloc, range, hashed, queries)?;
+            Ok(Some(replies))
+        }
+        None => Ok(None),
+    }
+}
+
+/// The replies of all models of a model's rows. `range` is the number of symbols of the one that
+/// divides.
+fn answers_of<Probability: DividingWord<PRECISION>, const PRECISION: usize, const SLOT_BITS: usize>(
+    alloc: Global,
+    model: &Contiguous<Probability, PRECISION>,
+    range: Option<usize>,
     steps: &[ChainStep],
     queries: &[Query<usize, Probability>],
 ) -> Result<AnswersOfWeights<Probability, DecoderForm<usize, Probability, PRECISION>>, ModelError>
-    requires narrow { PRECISION ≤ 63 }
+    requires precision { IsLookupPrecision Probability.BITS PRECISION }
+    requires range { IsRangeOf PRECISION (contiguous_model_rows model.now) range }
     ensures ok { IfOk result (AllReplyAsScan (in_numbers Probability.whole Probability.base)
         (replies_by_scan PRECISION Probability.whole nat_eq queries.now) steps.now form_rows
-        (contiguous_model_rows model.now)) }
+        PRECISION (contiguous_model_rows model.now)) }
     ensures refused { IfErr result (λ e. e ≡ ModelError.OutOfMemory) }
 {
     let (form, hashed) = converted_from(alloc, model, steps)?;
+    let dividing = asked_by_dividing(alloc, model, range, &hashed, queries)?;
     let (searching, tabled, converted) = asked_by_each::<_, PRECISION, SLOT_BITS>(
         alloc, model, &form, &hashed, queries,
     )?;
+    let questions = questions_of(alloc, model, queries)?;
     Ok(AnswersOfWeights {
+        dividing,
         searching,
         tabled,
         form,
         converted,
+        questions,
     })
 }
 
-/// Makes three models of a list of weights: one that searches, one with a lookup table of
-/// `2^min(PRECISION, SLOT_BITS)` slots, and a decoder over any symbols, which it converts by any
-/// steps. It answers the same queries by each, beside the model that searches and beside the hashed
-/// encoder.
+/// Makes the models of a list of weights: one that divides, if they are the weights of one, one
+/// that searches, one with a lookup table of `2^min(PRECISION, SLOT_BITS)` slots, and a decoder
+/// over any symbols, which it converts by any steps. It answers the same queries by each, beside a
+/// model of the symbols 0, 1, .. and beside the hashed encoder that is made of the converted
+/// decoder, and counts the questions of the searches.
 ///
 /// The lookup table takes two words a slot, or one if a slot is one quantile. At any `PRECISION`,
 /// [`answer_from_weights_by_search`](crate::answer_from_weights_by_search) makes no lookup tables.
-pub fn answer_from_weights<Probability: IndexWord, const PRECISION: usize, const SLOT_BITS: usize>(
+pub fn answer_from_weights<
+    Probability: DividingWord<PRECISION>,
+    const PRECISION: usize,
+    const SLOT_BITS: usize,
+>(
     alloc: Global,
     weights: Vec<Probability>,
     infer_last_probability: bool,
@@ -211,8 +259,9 @@ pub fn answer_from_weights<Probability: IndexWord, const PRECISION: usize, const
         IsDecidedBy result (IsAccepted Probability.BITS PRECISION all)
         (AllReplyAsScan (in_numbers Probability.whole Probability.base)
         (replies_by_scan PRECISION Probability.whole nat_eq queries.now) steps.now form_rows
-        (contiguous_rows all)) }
+        PRECISION (contiguous_rows all)) }
 {
+    let range = range_of::<Probability, PRECISION>(&weights, infer_last_probability);
     let model = contiguous_from::<Probability, PRECISION>(alloc, weights, infer_last_probability)?;
-    answers_of::<_, PRECISION, SLOT_BITS>(alloc, &model, steps, queries)
+    answers_of::<_, PRECISION, SLOT_BITS>(alloc, &model, range, steps, queries)
 }

@@ -1,5 +1,20 @@
-use Rattle.constriction_theorem.proofs.Making.{never-invalid, whatever-ok}
+use Rattle.std.proofs.Common.{arith}
+use Rattle.std.proofs.lemmas.Result.{err_from_is_err_and}
+use Rattle.constriction_theorem.proofs.Making.{handed-on, never-invalid, whatever-ok}
 use Rattle.constriction_theorem.proofs.weights.answer_from_weights.Goals as goal
+
+pub answers_of-requires : goal.answers_of-requires
+answers_of-requires g c =
+    let range = rw c.deref.ensures.value at c.range_of-range.ensures in (
+      omega arith,
+      (
+        omega arith,
+        (
+          omega arith,
+          (c.requires.precision, rw c.in_ok-model.ensures.rows (range c.in_ok-model.ensures.accepted.tiles)),
+        ),
+      ),
+    )
 
 pub returns : goal.returns
 returns g c = record {
@@ -7,3 +22,8 @@ returns g c = record {
   answers = rw c.in_ok-model.ensures.rows at c.answers_of.ensures.ok;
   invalid = never-invalid c.answers_of.result c.answers_of.ensures.refused;
 }
+
+pub returns-in_err-model : goal.returns-in_err-model
+returns-in_err-model g c =
+    let error = err_from_is_err_and c.from_residual.result c.from_residual.ensures.1 in
+    handed-on c.contiguous_from.result _ c.in_err-model.field-0.0 _ c.in_err-model.was error.1 error.2 c.contiguous_from.ensures.invalid
