@@ -1,7 +1,7 @@
 //! What contracts alone tell a caller of the theorem about the symbols 0, 1 and 2 with the weights
 //! 21, 21 and 22, which are those of a dividing model, and about letters with these weights.
 
-ghost use Rattle.std.specs.Prelude.{◌≡◌, ◌≤◌, [], ◌∷◌, Some, All, IfOk, IsSome, map};
+ghost use Rattle.std.specs.Prelude.{◌≡◌, ◌≤◌, [], ◌∷◌, Some, All, IfOk, IfSome, IsSome, map};
 ghost use Rattle.constriction.specs.Probe.{digits};
 ghost use Rattle.constriction.specs.Rows.{uniform_rows};
 ghost use Rattle.constriction_client.specs.Replies.{in_numbers};
@@ -48,6 +48,9 @@ fn queries() -> [Query<usize, u8>; 3]
 /// All models of the weights.
 fn by_weights(alloc: Global) -> Result<AnswersOfWeights<u8, DecoderForm<usize, u8, 6>>, ModelError>
     ensures divides { IfOk result (λ made. IsSome made.dividing) }
+    ensures dividing { IfOk result (λ made. IfSome made.dividing (λ replies. map (in_numbers
+        ⟦<u8 as WholeNumber>⟧.whole ⟦<u8 as WholeNumber>⟧.base) replies.hashed.items
+        ≡ answer.Row 2 42 22 ∷ answer.OutOfRange ∷ answer.Entry (Some (21, 21)) ∷ [])) }
     ensures converted { IfOk result (λ made. map (in_numbers ⟦<u8 as WholeNumber>⟧.whole
         ⟦<u8 as WholeNumber>⟧.base) made.converted.hashed.items
         ≡ answer.Row 2 42 22 ∷ answer.OutOfRange ∷ answer.Entry (Some (21, 21)) ∷ []) }
