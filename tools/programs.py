@@ -78,6 +78,13 @@ def tried(program, name, uses, inputs, *flags):
     return dict(zip(parts[1::2], parts[2::2])), ran.stderr, ran.returncode
 
 
+def is_current(path, *more):
+    """Returns whether a file was made after the last change of these files, and of the crates that it may be made of."""
+    parts = [f"crates/{crate}/{part}" for crate in os.listdir(f"{TOP}/crates") for part in ("src", "specs", "proofs")]
+    sources = ["crates.txt", *more, *(it for part in parts for it in files_below(part, ""))]
+    return os.path.exists(path) and all(os.path.getmtime(f"{TOP}/{it}") <= os.path.getmtime(path) for it in sources)
+
+
 def add_tried(crate, is_alone):
     """Puts the tests in tried/ into src/ of a copy of their crate: alone, with those of src/ that their root names, or beside all of these."""
     tried = files_below(f"crates/{os.path.basename(crate)}/tried", ".rt.txt")
