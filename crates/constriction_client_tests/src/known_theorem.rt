@@ -31,7 +31,8 @@ type Tabled = NonContiguousLookupDecoderModel<usize, u8, Vec<(u8, usize)>, Vec<u
 fn weights(alloc: Global) -> Result<Vec<u8>, AllocError>
     ensures { IfOk result (λ weights. weights.items ≡ 21 ∷ 21 ∷ 22 ∷ []) }
 {
-    Vec::from_array(alloc, [21u8, 21, 22])
+    let weights = Vec::from_array(alloc, [21u8, 21, 22])?;
+    Ok(weights)
 }
 
 /// The queries.
