@@ -1,3 +1,4 @@
 mod Making
+mod Questions
 mod Uniform
 mod Walking

@@ -12,7 +12,7 @@ ghost use Rattle.constriction_client.specs.Chains.{is_lookup, is_lookup_after};
 ghost use Rattle.constriction_client.specs.FormRows.{form_rows};
 ghost use Rattle.constriction_client.specs.Replies.{in_numbers, replies_by_scan};
 ghost use Rattle.constriction_theorem.specs.private.Ranges.{IsRangeOf};
-ghost use Rattle.constriction_theorem.specs.Answers.{AllReplyAsScan, IsDecidedBy, ReplyAsScan};
+ghost use Rattle.constriction_theorem.specs.Answers.{AllReplyAsScan, IsDecidedBy, ReplyAsScan, questions_asked};
 
 use crate::counted::questions_of;
 use crate::dividing::{DividingWord, range_of};
@@ -214,8 +214,9 @@ fn answers_of<Probability: DividingWord<PRECISION>, const PRECISION: usize, cons
     requires precision { IsLookupPrecision Probability.BITS PRECISION }
     requires range { IsRangeOf PRECISION (contiguous_model_rows model.now) range }
     ensures ok { IfOk result (AllReplyAsScan (in_numbers Probability.whole Probability.base)
-        (replies_by_scan PRECISION Probability.whole nat_eq queries.now) steps.now form_rows
-        PRECISION (contiguous_model_rows model.now)) }
+        (replies_by_scan PRECISION Probability.whole nat_eq queries.now)
+        (questions_asked PRECISION Probability.whole queries.now) steps.now form_rows PRECISION
+        (contiguous_model_rows model.now)) }
     ensures refused { IfErr result (λ e. e ≡ ModelError.OutOfMemory) }
 {
     let (form, hashed) = converted_from(alloc, model, steps)?;
@@ -258,8 +259,9 @@ pub fn answer_from_weights<
         (map Probability.whole weights.items) in
         IsDecidedBy result (IsAccepted Probability.BITS PRECISION all)
         (AllReplyAsScan (in_numbers Probability.whole Probability.base)
-        (replies_by_scan PRECISION Probability.whole nat_eq queries.now) steps.now form_rows
-        PRECISION (contiguous_rows all)) }
+        (replies_by_scan PRECISION Probability.whole nat_eq queries.now)
+        (questions_asked PRECISION Probability.whole queries.now) steps.now form_rows PRECISION
+        (contiguous_rows all)) }
 {
     let range = range_of::<Probability, PRECISION>(&weights, infer_last_probability);
     let model = contiguous_from::<Probability, PRECISION>(alloc, weights, infer_last_probability)?;

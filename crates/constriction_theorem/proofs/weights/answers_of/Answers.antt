@@ -1,5 +1,3 @@
-use Rattle.std.proofs.Common.{sym, ◌∙◌}
-use Rattle.std.proofs.lemmas.List.{length-map}
 use Rattle.constriction_theorem.proofs.weights.answers_of.Goals as goal
 
 pub returns-clause-ok : goal.returns-clause-ok
@@ -11,6 +9,6 @@ returns-clause-ok g c = record {
   converted = c.in_ok-searching.ensures.ok.2;
   kind = c.in_ok-form.ensures.kind;
   same = c.in_ok-form.ensures.rows;
-  counted = c.in_ok-questions.ensures.each ∙ sym (length-map c.args.queries.now _);
+  questions = c.in_ok-questions.ensures.questions;
   few = c.in_ok-questions.ensures.few;
 }

@@ -1,0 +1,14 @@
+use Rattle.std.proofs.Common.{◌-◌, length, ap, arith}
+use Rattle.constriction_categorical.specs.ModelRows.{contiguous_model_rows}
+use Rattle.constriction_model.specs.Probe.{digits}
+use Rattle.constriction_theorem.proofs.Questions.{all_probed, if_below}
+use Rattle.constriction_theorem.proofs.counted.questions_for_query.Goals as goal
+
+pub returns-else-not-is_quantile-clause-asked : goal.returns-else-not-is_quantile-clause-asked
+returns-else-not-is_quantile-clause-asked g c =
+    let probe = c.quantile_probe.ensures in
+    let rows = contiguous_model_rows c.args.model.now in
+    let size = all_probed (length rows) _ _ (λ i h. (probe.exactly i (record { symbol = 0; left = 0; weight = 0 }) h).0 tt) probe.within in
+    let counted = ap (λ n. digits (n - 1)) size in
+    rw c.in-OfQuantile.is (if_below _ _ _ _ _ (c.is_quantile.ensures.0 c.if-not-is_quantile.false)
+    (omega (arith, c.asked.ensures, c.row_of_quantile.ensures.counted, probe.fresh, counted)))
