@@ -2,6 +2,7 @@
 //! 21, 21 and 22, which are those of a dividing model, and about letters with these weights.
 
 ghost use Rattle.std.specs.Prelude.{◌≡◌, [], ◌∷◌, Some, IfOk, IfSome, IsSome, map};
+ghost use Rattle.constriction.specs.Probe.{digits};
 ghost use Rattle.constriction.specs.Rows.{uniform_rows};
 ghost use Rattle.constriction_client.specs.Replies.{in_numbers};
 ghost use Rattle.constriction_client.specs.declared.queries.Query.TheVariants as query;
@@ -54,7 +55,7 @@ fn by_weights(alloc: Global) -> Result<AnswersOfWeights<u8, DecoderForm<usize, u
     ensures converted { IfOk result (λ made. map (in_numbers ⟦<u8 as WholeNumber>⟧.whole
         ⟦<u8 as WholeNumber>⟧.base) made.converted.hashed.items
         ≡ answer.Row 2 42 22 ∷ answer.OutOfRange ∷ answer.Entry (Some (21, 21)) ∷ []) }
-    ensures questions { IfOk result (λ made. made.questions.items ≡ 2 ∷ 0 ∷ 0 ∷ []) }
+    ensures questions { IfOk result (λ made. made.questions.items ≡ digits 2 ∷ 0 ∷ 0 ∷ []) }
 {
     let given = weights(alloc)?;
     let steps = [ChainStep::ToLookup];
