@@ -1,6 +1,6 @@
 //! Filling the quantiles below `2^PRECISION` with rows, one after another.
 
-ghost use Rattle.std.specs.Prelude.{◌≡◌, ◌+◌, ◌^◌, ◌<◌, ◌≤◌, ◌⊎◌, ⊤, ℕ, List, [], ◌∷◌, ◌++◌, length, map, sum, IfOk, IsOk, OnOk, OnErr, IsTrue, true, false, min};
+ghost use Rattle.std.specs.Prelude.{◌≡◌, ◌+◌, ◌^◌, ◌<◌, ◌≤◌, ◌⊎◌, ⊤, ℕ, List, [], ◌∷◌, ◌++◌, length, map, sum, IfOk, IsOk, IsErr, OnOk, OnErr, IsTrue, true, false, min};
 ghost use Rattle.std.specs.Vec.{vec_len, vec_capacity};
 ghost use Rattle.std.specs.Iterator.{IsFinite, IsFiniteIterable};
 ghost use Rattle.constriction_model.specs.Acceptance.{completed, IsAccepted};
@@ -25,19 +25,21 @@ fn make_room<T: Drop>(items: &mut Vec<T>) -> Result<(), AllocError>
     items.reserve(1)
 }
 
-/// Adds an item to a list.
+/// Adds an item to a list. If memory for it is refused, the list stays.
 ///
 /// `make_room` borrows a full list under another name, so a loop that fills the list keeps its
 /// pointer, length and capacity in registers.
 #[inline(always)]
 pub fn push_item<T: Drop>(items: &mut Vec<T>, item: T) -> Result<(), AllocError>
-    ensures { IsOk result → items.new.items ≡ items.old.items ++ item ∷ [] }
+    ensures pushed { IsOk result → items.new.items ≡ items.old.items ++ item ∷ [] }
+    ensures same { IsErr result → items.new.items ≡ items.old.items }
 {
     if items.len() == items.capacity() {
         let alloc = *items.allocator();
         let mut full = mem::replace(items, Vec::new(alloc));
-        make_room(&mut full)?;
+        let grown = make_room(&mut full);
         *items = full;
+        grown?;
     }
     items.push_reserved(item);
     Ok(())
@@ -217,9 +219,10 @@ pub(crate) fn weights_taken<
             }
             return Ok(taken);
         }
-        taken.take_weight(left, weight)?;
+        let first = left;
         left = left.plus(weight);
         room = room.minus(weight);
+        taken.take_weight(first, weight)?;
     }
     if !is_inferred_last(room, infer_last) {
         return Err(ModelError::InvalidTable);

@@ -17,7 +17,7 @@ rows-preserved g c =
       collected-uncompared g.Walk.Iterator.next_gives c.args.walk c.rows.walk c.next.new.self c.rows.entries.items
           c.push_item.new.items.items
           c.in-Some.row (c.in_ok-symbol.symbol, c.in_ok-symbol.left, c.in_ok-symbol._weight) c.rows.invariant.2 c.in-Some.ensures.steps
-          c.in_ok-symbol.was (c.in_ok-push_item.ensures (refl {a = true})),
+          c.in_ok-symbol.was (c.in_ok-push_item.ensures.pushed (refl {a = true})),
     )
 
 pub returns : goal.returns

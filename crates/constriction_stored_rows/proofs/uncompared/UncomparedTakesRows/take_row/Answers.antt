@@ -7,7 +7,7 @@ use Rattle.constriction_stored_rows.proofs.uncompared.UncomparedTakesRows.take_r
 pub returns-clause-held : goal.returns-clause-held
 returns-clause-held g c = λ _ rows h.
     let whole = g.Word.WholeNumber.whole in
-    rw (c.in_ok-push_item.ensures (refl {a = true}))
+    rw (c.in_ok-push_item.ensures.pushed (refl {a = true}))
     (held-more whole c.args.self.now.entries.items rows
     (record { symbol = c.args.symbol; left = whole c.args.left; weight = whole c.args._weight }) c.args.left h refl)
 
