@@ -194,7 +194,7 @@ pub fn usual() -> Vec<Kernel> {
     }
     for table in &tables[2..4] {
         let weights = table.weights;
-        kernels.push(kernel!("to_generic_decoder_model", "u32/24", table.rows, table.rows, to_decoder(weights)));
+        kernels.push(kernel!("to_generic_decoder_model", "u32/24", table.rows, table.rows, to_decoder(weights)).with(Sides::Repeats));
         kernels.push(kernel!("to_generic_decoder_model_of_distinct", "u32/24", table.rows, table.rows, to_decoder_of_distinct(weights)));
         let wide: &'static [u64] = weights.iter().map(|weight| u64::from(*weight)).collect::<Vec<u64>>().leak();
         kernels.push(kernel!("to_generic_decoder_model_of_distinct", "u64/24", table.rows, table.rows, wide_to_decoder_of_distinct(wide)));

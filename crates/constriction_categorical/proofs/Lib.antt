@@ -4,4 +4,3 @@ pub mod RowAnswers
 pub mod Refilled
 pub mod Remade
 pub mod SlotWords
-pub mod Numbers

@@ -304,14 +304,6 @@ impl<
 
     ghost rows_left = { λ t. rows_stored PRECISION (map Probability.whole t.cdf.now) t.from t.to };
 
-    ghost is_equality = { λ eq. eq ≡ nat_eq };
-
-    /// `true`: the symbols are 0, 1, ..
-    #[inline]
-    fn symbols_differ(&self) -> bool {
-        true
-    }
-
     /// All rows in order, each once: symbol, left cumulative and weight. The walk takes no memory,
     /// and every item is a row.
     #[inline]

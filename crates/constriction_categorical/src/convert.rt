@@ -7,7 +7,6 @@ ghost use Rattle.constriction_stored_rows.specs.Stored.{IsStored, rows_paired};
 ghost use Rattle.constriction_categorical.specs.Made.{IsMadeIfApart};
 ghost use Rattle.constriction_categorical.specs.ModelRows.{decoder_model_rows, lookup_model_rows};
 
-use crate::convert::distinct::uncompared_entries_of_model;
 use crate::iterable::IterableEntropyModel;
 use crate::lookup::{LookupDecoderModel, lookup_over};
 use crate::lookup_non_contiguous::OwnLookupDecoderModel;
@@ -44,7 +43,7 @@ pub type LookupMadeOf<M, const PRECISION: usize, const SLOT_BITS: usize> = Looku
 /// The entries of a decoder with a model's rows, if no two symbols are equal. Each symbol is
 /// compared with all before it.
 #[inline]
-fn compared_entries_of_model<M, const PRECISION: usize>(
+fn entries_of_model<M, const PRECISION: usize>(
     alloc: Global,
     model: M,
 ) -> Result<Vec<(M::Probability, M::Symbol)>, ModelError>
@@ -63,45 +62,16 @@ where
     Ok(entries)
 }
 
-/// The same. Symbols are compared only if the model does not know that they differ.
-#[inline]
-fn entries_of_model<M, const PRECISION: usize>(
-    alloc: Global,
-    model: M,
-) -> Result<Vec<(M::Probability, M::Symbol)>, ModelError>
-where
-    M: IterableEntropyModel<PRECISION>,
-    M::Symbol: Eq + Drop,
-    requires { M.is_equality M.Symbol.eq }
-    ensures stored { IfOk result (λ v.
-        IsStored M.Probability.BITS PRECISION (map (λ x. M.Probability.whole x.0) v.items)) }
-    ensures distinct { IfOk result (λ v. IsDistinct M.Symbol.eq (map (λ x. x.1) v.items)) }
-    ensures rows { IfOk result (λ v. StandApart M.Symbol.eq M.stands_for
-        (rows_paired M.Probability.whole PRECISION v.items) (M.rows model)) }
-    ensures invalid { result ≡ Err ModelError.InvalidTable
-        → ClonesRepeat M.Symbol.eq M.stands_for (M.rows model) }
-{
-    if model.symbols_differ() {
-        uncompared_entries_of_model::<M, PRECISION>(alloc, model)
-    } else {
-        compared_entries_of_model::<M, PRECISION>(alloc, model)
-    }
-}
-
 /// The decoder model with the rows of any model that can be walked through.
 ///
 /// Its symbols are those that the walk gives: clones if the model owns its symbols. `InvalidTable`
 /// comes only if two symbols that a walk may give are equal, `OutOfMemory` if memory for the
 /// entries or for a clone is refused.
 ///
-/// One walk. If the model knows that its symbols differ, as each model of this library does, none
-/// are compared. If it does not, each is compared with all before it: `n * (n - 1) / 2` comparisons
-/// for `n` rows.
-///
-/// A model over any symbols requires here that a clone is equal to its symbol. If the symbols' type
-/// does not say so, take [`to_generic_decoder_model_by_comparison`]. If the caller alone knows that
-/// symbols differ, take
-/// [`to_generic_decoder_model_of_distinct`](crate::to_generic_decoder_model_of_distinct).
+/// One walk. Each symbol is compared with all before it: `n * (n - 1) / 2` comparisons for `n`
+/// rows. If the symbols are known to differ, as those of each model of this library are,
+/// [`to_generic_decoder_model_of_distinct`](crate::to_generic_decoder_model_of_distinct) compares
+/// none.
 pub fn to_generic_decoder_model<M, const PRECISION: usize>(
     alloc: Global,
     model: M,
@@ -109,25 +79,9 @@ pub fn to_generic_decoder_model<M, const PRECISION: usize>(
 where
     M: IterableEntropyModel<PRECISION>,
     M::Symbol: Eq + Drop,
-    requires { M.is_equality M.Symbol.eq }
     ensures { IsMadeIfApart M.Symbol.eq M.stands_for decoder_model_rows (M.rows model) result }
 {
     let entries = entries_of_model(alloc, model)?;
-    Ok(decoder_over(entries))
-}
-
-/// As [`to_generic_decoder_model`], but each symbol is compared with all before it, whatever the
-/// model knows. So it requires nothing.
-pub fn to_generic_decoder_model_by_comparison<M, const PRECISION: usize>(
-    alloc: Global,
-    model: M,
-) -> Result<DecoderMadeOf<M, PRECISION>, ModelError>
-where
-    M: IterableEntropyModel<PRECISION>,
-    M::Symbol: Eq + Drop,
-    ensures { IsMadeIfApart M.Symbol.eq M.stands_for decoder_model_rows (M.rows model) result }
-{
-    let entries = compared_entries_of_model(alloc, model)?;
     Ok(decoder_over(entries))
 }
 
@@ -143,8 +97,7 @@ where
     M: IterableEntropyModel<PRECISION>,
     M::Symbol: Eq + Drop,
     M::Probability: IndexWord,
-    requires narrow { PRECISION ≤ 63 }
-    requires equality { M.is_equality M.Symbol.eq }
+    requires { PRECISION ≤ 63 }
     ensures { IsMadeIfApart M.Symbol.eq M.stands_for lookup_model_rows (M.rows model) result }
 {
     to_generic_slotted_lookup_decoder_model::<M, PRECISION, 8>(alloc, model)
@@ -159,8 +112,7 @@ where
     M: IterableEntropyModel<PRECISION>,
     M::Symbol: Eq + Drop,
     M::Probability: IndexWord,
-    requires narrow { PRECISION ≤ 63 }
-    requires equality { M.is_equality M.Symbol.eq }
+    requires { PRECISION ≤ 63 }
     ensures { IsMadeIfApart M.Symbol.eq M.stands_for lookup_model_rows (M.rows model) result }
 {
     let searching = to_generic_decoder_model::<M, PRECISION>(alloc, model)?;
@@ -177,7 +129,6 @@ impl<
     where
         M: IterableEntropyModel<PRECISION>
             + EntropyModel<PRECISION, Symbol = Symbol, Probability = Probability>,
-        requires { M.is_equality Symbol.eq }
         ensures { IsMadeIfApart Symbol.eq M.stands_for decoder_model_rows (M.rows model) result }
     {
         to_generic_decoder_model::<M, PRECISION>(alloc, model)
@@ -196,8 +147,7 @@ impl<
     where
         M: IterableEntropyModel<PRECISION>
             + EntropyModel<PRECISION, Symbol = Symbol, Probability = Probability>,
-        requires narrow { PRECISION ≤ 63 }
-        requires equality { M.is_equality Symbol.eq }
+        requires { PRECISION ≤ 63 }
         ensures { IsMadeIfApart Symbol.eq M.stands_for lookup_model_rows (M.rows model) result }
     {
         to_generic_slotted_lookup_decoder_model::<M, PRECISION, SLOT_BITS>(alloc, model)

@@ -4,11 +4,9 @@
 //! reference if it uses the crate of the trait, directly or through another one, but not through
 //! the crate of the model alone.
 
-ghost use Rattle.std.specs.Prelude.{◌≡◌, Bool, List, length, IsTrue, ⊤};
+ghost use Rattle.std.specs.Prelude.{◌≡◌, List, length};
 ghost use Rattle.std.specs.Iterator.{UpTo};
-ghost use Rattle.std.specs.List.{IsDistinct};
-ghost use Rattle.constriction_model.specs.Model.{ClonesAreEqual};
-ghost use Rattle.constriction_model.specs.Rows.{Row, RowsTile, symbols_of};
+ghost use Rattle.constriction_model.specs.Rows.{Row, RowsTile};
 ghost use Rattle.constriction_model.specs.Tables.{YieldsRow};
 
 use constriction_model::{EntropyModel, Weight};
@@ -31,21 +29,6 @@ pub trait IterableEntropyModel<const PRECISION: usize>: EntropyModel<PRECISION> 
 
     // The rows that a symbol table has yet to give.
     ghost rows_left: { Self.SymbolTable → List (Row Self.Symbol) };
-
-    // The answer of `symbols_differ` holds for this equality of symbols, by default for each. A
-    // model that answers `true` says for which, and may ask here that a clone equals its symbol.
-    ghost is_equality: { (Self.Symbol → Self.Symbol → Bool) → Type 0 } = { λ _. ⊤ };
-
-    /// Whether it is known that no two symbols of the rows are equal, and no two that a walk gives,
-    /// so that a caller need not compare them. A model that does not know answers `false`.
-    #[inline]
-    fn symbols_differ(&self) -> bool
-        ensures clones { IsTrue result → (eq : _) → is_equality eq → ClonesAreEqual eq stands_for }
-        ensures differ { IsTrue result → (eq : _) → is_equality eq
-            → IsDistinct eq (symbols_of (Self.rows self.now)) }
-    {
-        false
-    }
 
     /// All rows in order, each once: symbol, left cumulative and weight. If memory for a clone of a
     /// symbol is refused, the row's item is the refusal, and the walk goes on after it.

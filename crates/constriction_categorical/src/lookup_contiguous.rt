@@ -1,6 +1,6 @@
 //! Models of the symbols 0, 1, .., which look up where to search for the row of a quantile.
 
-ghost use Rattle.std.specs.Prelude.{◌≡◌, ◌≤◌, map, nat_eq};
+ghost use Rattle.std.specs.Prelude.{◌≡◌, ◌≤◌, map};
 ghost use Rattle.std.specs.Iterator.{IsFiniteIterable};
 ghost use Rattle.constriction_model.specs.Acceptance.{completed, IsAccepted, IsDecidedByWeights};
 ghost use Rattle.constriction_model.specs.Precision.{IsLookupPrecision};
@@ -221,14 +221,6 @@ impl<
     type SymbolTable = ContiguousSymbolTable<'m, Probability, PRECISION>;
 
     ghost rows_left = { λ t. rows_stored PRECISION (map Probability.whole t.cdf.now) t.from t.to };
-
-    ghost is_equality = { λ eq. eq ≡ nat_eq };
-
-    /// `true`: the symbols are 0, 1, ..
-    #[inline]
-    fn symbols_differ(&self) -> bool {
-        true
-    }
 
     /// All rows in order, each once: symbol, left cumulative and weight. The walk takes no memory,
     /// and every item is a row.

@@ -295,15 +295,6 @@ impl<
     ghost rows_left = { λ t.
         rows_between t.from t.to (rows_paired Probability.whole PRECISION t.entries.now) };
 
-    ghost is_equality = { λ eq. (eq ≡ Symbol.eq) × ClonesAreEqual Symbol.eq Symbol.is_clone };
-
-    /// No two symbols are equal. A caller who relies on this shows that a clone is equal to its
-    /// symbol.
-    #[inline]
-    fn symbols_differ(&self) -> bool {
-        true
-    }
-
     /// All rows in order, each once: a clone of the symbol, the left cumulative and the weight. If
     /// memory for a clone is refused, the row's item is the refusal.
     #[inline]

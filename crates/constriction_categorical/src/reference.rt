@@ -13,12 +13,6 @@ impl<M: IterableEntropyModel<PRECISION> + Copy, const PRECISION: usize> Iterable
 
     ghost rows_left = { M.rows_left };
 
-    ghost is_equality = { M.is_equality };
-
-    fn symbols_differ(&self) -> bool {
-        (**self).symbols_differ()
-    }
-
     fn symbol_table(self) -> M::SymbolTable {
         (*self).symbol_table()
     }

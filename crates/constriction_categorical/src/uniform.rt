@@ -1,6 +1,6 @@
 //! The walk through the rows of a uniform model.
 
-ghost use Rattle.std.specs.Prelude.{◌≡◌, ◌+◌, nat_eq};
+ghost use Rattle.std.specs.Prelude.{◌≡◌, ◌+◌};
 ghost use Rattle.constriction_model.specs.Rows.{uniform_rows};
 ghost use Rattle.constriction_model.specs.Tables.{rows_between};
 ghost use Rattle.constriction_model.specs.lemmas.UniformRows.{uniform-tiles};
@@ -15,14 +15,6 @@ impl<Probability: WholeNumber, const PRECISION: usize> IterableEntropyModel<PREC
 
     ghost rows_left = { λ t. rows_between t.from t.to
         (uniform_rows PRECISION (Probability.whole t.model.last_symbol + 1)) };
-
-    ghost is_equality = { λ eq. eq ≡ nat_eq };
-
-    /// `true`: the symbols are 0, 1, ..
-    #[inline]
-    fn symbols_differ(&self) -> bool {
-        true
-    }
 
     /// All rows in order, each once: symbol, left cumulative and weight. The walk takes no memory,
     /// and every item is a row.

@@ -93,8 +93,6 @@ impl<
     Probability: IndexWord + 'm,
     const PRECISION: usize,
 > IterableEntropyModel<PRECISION> for &'m DecoderForm<Symbol, Probability, PRECISION> {
-    ghost use Rattle.std.specs.Prelude.{◌≡◌};
-    ghost use Rattle.constriction_model.specs.Model.{ClonesAreEqual};
     ghost use Rattle.constriction_model.specs.Rows.{RowsTile};
     ghost use Rattle.constriction_categorical.specs.lemmas.ModelRows.{decoder-tiles, lookup-tiles};
     ghost use Rattle.constriction_client.specs.FormRows.{form_rows};
@@ -107,15 +105,6 @@ impl<
     ghost may_refuse = { λ s. ¬ (Symbol.is_infallible s) };
 
     ghost rows_left = { ⟦<&'m Searching<Symbol, Probability, PRECISION> as IterableEntropyModel<PRECISION>>⟧.rows_left };
-
-    ghost is_equality = { λ eq. (eq ≡ Symbol.eq) × ClonesAreEqual Symbol.eq Symbol.is_clone };
-
-    fn symbols_differ(&self) -> bool {
-        match self {
-            DecoderForm::Search(model) => model.symbols_differ(),
-            DecoderForm::Lookup(model) => model.symbols_differ(),
-        }
-    }
 
     fn symbol_table(self) -> NonContiguousSymbolTable<'m, Symbol, Probability, PRECISION> {
         match self {

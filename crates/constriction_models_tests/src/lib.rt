@@ -15,8 +15,6 @@ mod distinct_symbols;
 #[cfg(test)]
 mod generic_callers;
 #[cfg(test)]
-mod known_to_differ;
-#[cfg(test)]
 mod laws;
 #[cfg(test)]
 mod model_checks;

@@ -5,7 +5,7 @@ use crate::checks::{same, same_at};
 use constriction::stream::model::{
     DecoderModel, EncoderModel, IterableEntropyModel, ModelError,
     NonContiguousCategoricalDecoderModel, NonContiguousCategoricalEncoderModel,
-    NonContiguousLookupDecoderModel, to_generic_decoder_model_by_comparison,
+    NonContiguousLookupDecoderModel, to_generic_decoder_model,
 };
 use constriction_test_support::watched::{Tally, Watched, symbols, tally};
 use std::alloc::{AllocError, Global};
@@ -61,9 +61,9 @@ fn of_compared(alloc: Global, symbols: Vec<Watched>) -> Result<Decoder, ModelErr
     Decoder::from_symbols_and_nonzero_fixed_point_probabilities(alloc, symbols, WEIGHTS, true)
 }
 
-/// The same conversion of a model. Returns its error.
-fn refused_by_comparison(alloc: Global, model: &Decoder) -> Option<ModelError> {
-    to_generic_decoder_model_by_comparison(alloc, model).err()
+/// The error of a conversion that compares each symbol with all before it.
+fn refused_conversion(alloc: Global, model: &Decoder) -> Option<ModelError> {
+    to_generic_decoder_model(alloc, model).err()
 }
 
 /// Of sixteen symbols, 120 pairs are compared.
@@ -73,8 +73,8 @@ fn each_two_symbols_are_compared_once(rt: HostRuntime) {
     let symbols = symbols(rt.alloc(), &tally, 15, 15).expect(&rt, "memory");
     let model = of_compared(rt.alloc(), symbols).expect(&rt, "accepted");
     counts(&rt, &tally, "of symbols", [0, 120, 0]);
-    same(&rt, refused_by_comparison(rt.alloc(), &model), None);
-    counts(&rt, &tally, "by comparison", [16, 120, 0]);
+    same(&rt, refused_conversion(rt.alloc(), &model), None);
+    counts(&rt, &tally, "converted", [16, 120, 0]);
 }
 
 #[test]

@@ -18,7 +18,7 @@ use std::alloc::Global;
 
 /// The entries of a decoder with a model's rows. No two of the model's symbols are equal.
 #[inline]
-pub(crate) fn uncompared_entries_of_model<M, const PRECISION: usize>(
+fn uncompared_entries_of_model<M, const PRECISION: usize>(
     alloc: Global,
     model: M,
 ) -> Result<Vec<(M::Probability, M::Symbol)>, ModelError>

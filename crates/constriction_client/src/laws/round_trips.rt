@@ -117,8 +117,7 @@ pub fn decoder_and_encoder<M, const PRECISION: usize>(
 where
     M: IterableEntropyModel<PRECISION> + Copy,
     M::Symbol: Hash + Eq + Drop,
-    requires clones { ClonesAreEqual M.Symbol.eq M.stands_for }
-    requires equality { M.is_equality M.Symbol.eq }
+    requires { ClonesAreEqual M.Symbol.eq M.stands_for }
     ensures rows { IfOk result (λ both.
         StandForRows M.stands_for (decoder_model_rows both.0) (M.rows model)) }
     ensures alike { IfOk result (λ both.

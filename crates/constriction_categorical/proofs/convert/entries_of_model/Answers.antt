@@ -1,7 +1,7 @@
 use Rattle.std.proofs.Common.{◌≡◌, Err, rules}
 use Rattle.constriction_model.specs.declared.error.ModelError.TheVariants.{InvalidTable}
 use Rattle.constriction_categorical.proofs.CollectLemmas.{walked-stored, walked-distinct, walked-repeat}
-use Rattle.constriction_categorical.proofs.convert.compared_entries_of_model.Goals as goal
+use Rattle.constriction_categorical.proofs.convert.entries_of_model.Goals as goal
 
 pub returns-clause-stored : goal.returns-clause-stored
 returns-clause-stored g c =
