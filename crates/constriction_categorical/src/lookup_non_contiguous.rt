@@ -2,7 +2,7 @@
 
 ghost use Rattle.std.specs.Prelude.{◌≡◌, ◌≤◌, IfOk};
 ghost use Rattle.std.specs.Iterator.{IsFiniteIterable};
-ghost use Rattle.constriction_model.specs.Acceptance.{completed, AreAccepted, IsDecidedByBoth};
+ghost use Rattle.constriction_model.specs.Acceptance.{completed, AreAccepted, IsDecidedByBoth, GivesDistinct};
 ghost use Rattle.constriction_model.specs.Model.{StandForRows, ClonesAreEqual};
 ghost use Rattle.constriction_model.specs.Precision.{IsLookupPrecision};
 ghost use Rattle.constriction_model.specs.Rows.{rows_of};
@@ -126,6 +126,43 @@ impl<
             Vec<(Probability, Symbol)>,
             PRECISION,
         >::from_symbols_and_nonzero_fixed_point_probabilities(
+            alloc,
+            symbols,
+            probabilities,
+            infer_last_probability,
+        )?;
+        lookup_over(alloc, model)
+    }
+
+    /// The same for a caller who knows that no two of the symbols are equal. None are compared.
+    #[tactic(auto, using(crate::proofs::Remade::error_of_both))]
+    pub fn from_distinct_symbols_and_nonzero_fixed_point_probabilities<
+        S: IntoIterator<Item = Symbol>,
+        P: IntoIterator<Item = Probability>,
+    >(
+        alloc: Global,
+        symbols: S,
+        probabilities: P,
+        infer_last_probability: bool,
+    ) -> Result<Self, ModelError>
+        requires precision { IsLookupPrecision Probability.BITS PRECISION }
+        requires symbols_end { IsFiniteIterable S.into_iter_gives S.IntoIter.can_next
+            S.IntoIter.remaining symbols }
+        requires probabilities_end { IsFiniteIterable P.into_iter_gives P.IntoIter.can_next
+            P.IntoIter.remaining probabilities }
+        requires distinct { GivesDistinct S.into_iter_gives S.IntoIter.next_gives Symbol.eq
+            symbols }
+        ensures { IsDecidedByBoth (AreAccepted Symbol.eq Probability.BITS PRECISION)
+            (completed PRECISION infer_last_probability) S.into_iter_gives S.IntoIter.next_gives
+            symbols P.into_iter_gives P.IntoIter.next_gives probabilities Probability.whole
+            (λ m ss ws. lookup_model_rows m ≡ rows_of ss ws) result }
+    {
+        let model = NonContiguousCategoricalDecoderModel::<
+            Symbol,
+            Probability,
+            Vec<(Probability, Symbol)>,
+            PRECISION,
+        >::from_distinct_symbols_and_nonzero_fixed_point_probabilities(
             alloc,
             symbols,
             probabilities,
