@@ -28,8 +28,8 @@ pub use crate::convert::distinct::{
     to_generic_decoder_model_of_distinct, to_generic_lookup_decoder_model_of_distinct,
 };
 pub use crate::convert::{
-    DecoderMadeOf, LookupMadeOf, to_generic_decoder_model,
-    to_generic_lookup_decoder_model, to_generic_slotted_lookup_decoder_model,
+    DecoderMadeOf, LookupMadeOf, to_generic_decoder_model, to_generic_lookup_decoder_model,
+    to_generic_slotted_lookup_decoder_model,
 };
 pub use crate::iterable::IterableEntropyModel;
 pub use crate::lookup::{LookupDecoderModel, lookup_over};

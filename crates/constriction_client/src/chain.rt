@@ -5,13 +5,13 @@ ghost use Rattle.std.specs.Iterator.{Drains, IsFinite};
 ghost use Rattle.std.specs.List.{IsDistinct};
 ghost use Rattle.constriction_model.specs.Acceptance.{AreAccepted};
 ghost use Rattle.constriction_model.specs.Model.{StandForRows, ClonesAreSame, ClonesAreEqual};
-ghost use Rattle.constriction_categorical.specs.ModelRows.{decoder_model_rows};
-ghost use Rattle.constriction_model.specs.Precision.{IsPrecision};
+ghost use Rattle.constriction_categorical.specs.ModelRows.{decoder_model_rows, lookup_model_rows};
+ghost use Rattle.constriction_model.specs.Precision.{IsLookupPrecision, IsPrecision};
 ghost use Rattle.constriction_model.specs.Rows.{Row, rows_of, symbols_of};
 ghost use Rattle.constriction_client.specs.Chains.{is_lookup, is_lookup_after, StepLeaves, ChainLeaves};
 ghost use Rattle.constriction_client.specs.FormRows.{form_rows};
 
-use crate::decoder_form::{DecoderForm, Searching};
+use crate::decoder_form::{DecoderForm, Searching, Tabled};
 use crate::laws::form_symbols_differ;
 use constriction_categorical::{IterableEntropyModel, to_generic_decoder_model_of_distinct};
 use constriction_conversions::laws::table_gives_all_rows;
@@ -98,6 +98,24 @@ fn searching_of<Symbol: Eq + Drop, Probability: WholeNumber, const PRECISION: us
     )
 }
 
+/// The lookup model of symbols and weights that are accepted. The symbols are not compared.
+fn tabled_of<Symbol: Eq + Drop, Probability: IndexWord, const PRECISION: usize>(
+    alloc: Global,
+    symbols: Vec<Symbol>,
+    weights: Vec<Probability>,
+) -> Result<Tabled<Symbol, Probability, PRECISION>, ModelError>
+    requires precision { IsLookupPrecision Probability.BITS PRECISION }
+    requires accepted { AreAccepted Symbol.eq Probability.BITS PRECISION symbols.items
+        (map Probability.whole weights.items) }
+    ensures rows { IfOk result (λ m.
+        lookup_model_rows m ≡ rows_of symbols.items (map Probability.whole weights.items)) }
+    ensures refused { IfErr result (λ e. e ≡ ModelError.OutOfMemory) }
+{
+    Tabled::from_distinct_symbols_and_nonzero_fixed_point_probabilities(
+        alloc, symbols, weights, false,
+    )
+}
+
 /// The searching model of a form's rows, with clones of its symbols. No symbols are compared.
 fn searched<Symbol: Eq + Clone + Drop, Probability: IndexWord, const PRECISION: usize>(
     alloc: Global,
@@ -122,7 +140,7 @@ fn symbols_differ_of<Symbol: Eq, Probability: IndexWord, const PRECISION: usize>
 {}
 
 /// The form with a lookup table of the same rows.
-fn tabled_of<Symbol: Eq + Drop, Probability: IndexWord, const PRECISION: usize>(
+fn with_table<Symbol: Eq + Drop, Probability: IndexWord, const PRECISION: usize>(
     alloc: Global,
     model: Searching<Symbol, Probability, PRECISION>,
 ) -> Result<DecoderForm<Symbol, Probability, PRECISION>, ModelError>
@@ -198,7 +216,7 @@ impl<Symbol: Eq + Clone + Drop, Probability: IndexWord, const PRECISION: usize> 
 
     fn to_lookup(&self, alloc: Global) -> Result<Self, ModelError> {
         symbols_differ_of(self);
-        tabled_of(alloc, searched(alloc, self)?)
+        with_table(alloc, searched(alloc, self)?)
     }
 
     fn into_search(self) -> Self {
@@ -212,10 +230,11 @@ impl<Symbol: Eq + Clone + Drop, Probability: IndexWord, const PRECISION: usize> 
 
     fn rebuild(&self, alloc: Global) -> Result<Self, ModelError> {
         let (symbols, weights) = symbols_and_weights(alloc, self)?;
-        let model = searching_of(alloc, symbols, weights)?;
         match self {
-            DecoderForm::Search(_) => Ok(DecoderForm::Search(model)),
-            DecoderForm::Lookup(_) => tabled_of(alloc, model),
+            DecoderForm::Search(_) => {
+                Ok(DecoderForm::Search(searching_of(alloc, symbols, weights)?))
+            }
+            DecoderForm::Lookup(_) => Ok(DecoderForm::Lookup(tabled_of(alloc, symbols, weights)?)),
         }
     }
 }

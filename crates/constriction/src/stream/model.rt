@@ -11,9 +11,8 @@ pub use constriction_categorical::{
     SmallContiguousDirectLookupDecoderModel, SmallContiguousLookupDecoderModel,
     SmallNonContiguousCategoricalDecoderModel, SmallNonContiguousDirectLookupDecoderModel,
     SmallNonContiguousLookupDecoderModel, StoresRows, to_generic_decoder_model,
-    to_generic_decoder_model_of_distinct,
-    to_generic_lookup_decoder_model, to_generic_lookup_decoder_model_of_distinct,
-    to_generic_slotted_lookup_decoder_model,
+    to_generic_decoder_model_of_distinct, to_generic_lookup_decoder_model,
+    to_generic_lookup_decoder_model_of_distinct, to_generic_slotted_lookup_decoder_model,
 };
 pub use constriction_conversions::{
     DefaultNonContiguousCategoricalEncoderModel, EncoderMadeOf,
