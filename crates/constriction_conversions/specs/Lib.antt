@@ -1,2 +1,3 @@
+pub mod BothEnds
 pub mod EncoderRows
 pub mod Hashed

@@ -1,11 +1,13 @@
 //! Laws of symbol tables and of models over any symbols. Each is the contract of a function. The
 //! laws of symbol tables hold for each type that implements the trait, a caller's own too.
 
-ghost use Rattle.std.specs.Prelude.{◌≡◌, ◌++◌, ℕ, List, length, map};
+ghost use Rattle.std.specs.Prelude.{◌≡◌, ◌++◌, ℕ, List, length, map, reverse, false, true};
 ghost use Rattle.std.specs.Iterator.{Yields, Drains};
 ghost use Rattle.std.specs.List.{IsDistinct};
 ghost use Rattle.constriction_model.specs.Acceptance.{AreAccepted};
 ghost use Rattle.constriction_model.specs.Laws.{AreRows, IsInTable};
+ghost use Rattle.constriction_model.specs.Tables.{YieldsLastRow};
+ghost use Rattle.constriction_conversions.specs.BothEnds.{EitherStep, marked};
 ghost use Rattle.constriction_model.specs.Rows.{Row, IsRowOf, rows_of, symbols_of};
 
 use constriction_buffers::SafeBuf;
@@ -36,6 +38,27 @@ pub fn table_gives_all_rows<M: IterableEntropyModel<PRECISION>, const PRECISION:
 pub fn table_length<M: IterableEntropyModel<PRECISION>, const PRECISION: usize>()
     ensures { (t : M.SymbolTable) (items : _) → Drains M.SymbolTable.next_gives t items
         → length items ≡ length (M.rows_left t) }
+{}
+
+/// Steps of a symbol table from both ends, in any order, give each row once: those from the front
+/// (`next`) the first rows, those from the back (`next_back`) the last ones in reverse. The others
+/// are left, and none if both ends have met.
+pub fn table_walks_rows_from_both_ends<M, const PRECISION: usize>()
+where
+    M: IterableEntropyModel<PRECISION>,
+    M::SymbolTable: DoubleEndedIterator,
+    // Each step from the back gives the last row left, as the library's symbol tables say.
+    requires { (t : M.SymbolTable) (r : _) (u : M.SymbolTable)
+        → M.SymbolTable.next_back_gives t r u → YieldsLastRow M.stands_for M.may_refuse
+        M.Probability.whole M.Probability.base M.rows_left t r u }
+    ensures { (t : M.SymbolTable) (items : _) (u : M.SymbolTable)
+        → Yields (EitherStep M.SymbolTable.next_gives M.SymbolTable.next_back_gives) t items u
+        → (first : List (Row M.Symbol)) × (last : List (Row M.Symbol))
+        × (M.rows_left t ≡ first ++ M.rows_left u ++ last)
+        × AreRows M.stands_for M.may_refuse M.Probability.whole M.Probability.base
+        (marked true items) first
+        × AreRows M.stands_for M.may_refuse M.Probability.whole M.Probability.base
+        (reverse (marked false items)) last }
 {}
 
 /// The row of a quantile is in the model's symbol table: in a walk to the end, an item or a refusal
