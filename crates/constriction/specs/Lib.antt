@@ -1,4 +1,5 @@
 pub use Rattle.constriction_model.specs.Acceptance
+pub use Rattle.constriction_conversions.specs.BothEnds
 pub use Rattle.constriction_categorical.specs.Cdf
 pub use Rattle.constriction_model.specs.Coding
 pub use Rattle.constriction_conversions.specs.EncoderRows

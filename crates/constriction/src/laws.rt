@@ -4,7 +4,7 @@
 pub use constriction_conversions::laws::{
     answers_are_in_table, non_contiguous_lookup_symbols_differ, non_contiguous_symbols_differ,
     slotted_non_contiguous_lookup_symbols_differ, symbols_and_weights_rebuild,
-    table_gives_all_rows, table_length, table_walks_rows,
+    table_gives_all_rows, table_length, table_walks_rows, table_walks_rows_from_both_ends,
 };
 pub use constriction_model::laws::{
     contiguous_symbols_differ, contiguous_symbols_have_entries, each_quantile_in_range_has_a_row,

@@ -81,21 +81,40 @@ fn a_stack_of_100_000_words_has_grown_at_most_twenty_times(rt: HostRuntime) {
     );
 }
 
-/// A stack that holds up to four words inline, and takes memory for more from a heap of 16 bytes.
-type Four<'h> = SmallVec<u32, 4, &'h LocalHeap>;
+/// A stack that holds up to two words inline, and takes memory for more from a heap.
+type TwoOf<'h> = SmallVec<u8, 2, &'h LocalHeap>;
 
+/// The words before one that is refused, at most.
+const KEPT: [u8; 16] = [0, 1, 2, 3, 4, 5, 6, 7, 8, 9, 10, 11, 12, 13, 14, 15];
+
+/// Writes words until one is refused, reads one, and writes another. Nothing else is lost.
+fn keeps_its_words(rt: &impl Abort, heap: &LocalHeap, kept: &[u8]) {
+    let mut words: TwoOf = SmallVec::new(heap);
+    same(rt, words.extend_from_iter(0..99), Err(AllocError));
+    for _ in 0..2 {
+        same(rt, words.write(9), Err(AllocError));
+    }
+    same(rt, words.as_slice(), kept);
+    let last = kept.last().copied();
+    same(rt, ReadWords::<u8, Stack>::read(&mut words), Ok(last));
+    same(rt, words.write(77), Ok(()));
+    same(
+        rt,
+        (words.len(), words.last().copied()),
+        (kept.len(), Some(77)),
+    );
+}
+
+/// A heap of 32 bytes gives sixteen at a time. If all are taken, the first request of a stack is
+/// refused, for four words; if half are, the second, for eight; and if none is, the fourth, for 32.
 #[test]
 fn a_stack_keeps_its_words_where_each_request_is_refused(rt: HostRuntime) {
-    let heap = LocalHeap::new(rt.alloc(), 16).expect(&rt, "memory");
-    let mut words: Four = SmallVec::new(&heap);
-    same(&rt, words.extend_from_iter(0..9), Err(AllocError));
-    for _ in 0..2 {
-        same(&rt, words.write(9), Err(AllocError));
+    for (taken, kept) in [(32, 2), (16, 4), (0, 16)] {
+        let heap = LocalHeap::new(rt.alloc(), 32).expect(&rt, "memory");
+        let others: Vec<u8, &LocalHeap> = Vec::with_capacity(&heap, taken).expect(&rt, "memory");
+        keeps_its_words(&rt, &heap, &KEPT[..kept]);
+        drop(others);
     }
-    same(&rt, words.as_slice(), [0, 1, 2, 3].as_slice());
-    same(&rt, ReadWords::<u32, Stack>::read(&mut words), Ok(Some(3)));
-    same(&rt, words.write(4), Ok(()));
-    same(&rt, words.as_slice(), [0, 1, 2, 4].as_slice());
 }
 
 /// The word that comes back from a `Vec`, or an error if memory is refused.

@@ -12,10 +12,10 @@ use crate::checks::same;
 use crate::model_checks::small;
 use constriction::laws::{
     contiguous_symbols_differ, equal_answers, pairs_are_quantiles, table_gives_all_rows,
-    table_length,
+    table_length, table_walks_rows_from_both_ends,
 };
 use constriction::stream::model::{
-    DecoderModel, EncoderModel, EntropyModel, IterableEntropyModel, Weight,
+    DecoderModel, EncoderModel, EntropyModel, IterableEntropyModel, UniformModel, Weight,
 };
 use constriction_test_support::any_symbols::{Encoder, entry};
 use constriction_test_support::contiguous::Weighted;
@@ -60,6 +60,13 @@ fn items_and_letters(model: &LetterDecoder) -> (usize, usize)
 {
     let letters = model.support_size();
     (count(model), letters)
+}
+
+/// Each symbol table of the library gives each row once by steps from both ends.
+fn both_ends_give_each_row() {
+    table_walks_rows_from_both_ends::<&Weighted<6>, 6>();
+    table_walks_rows_from_both_ends::<UniformModel<u8, 6>, 6>();
+    table_walks_rows_from_both_ends::<&LetterDecoder, 6>();
 }
 
 /// The rows that the symbol table of a model of letters gives.
@@ -198,6 +205,7 @@ fn read_letters(alloc: Global) -> Result<(Rows, Rows), AllocError> {
 
 #[test]
 fn a_symbol_table_has_an_item_for_each_row(rt: HostRuntime) {
+    both_ends_give_each_row();
     let model = letters(rt.alloc()).expect(&rt, "accepted");
     same(&rt, items_and_letters(&model), (3, 3));
 }

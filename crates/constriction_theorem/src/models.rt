@@ -34,6 +34,7 @@ where
     requires narrow { PRECISION ≤ 63 }
     requires walked { ClonesAreEqual M.Symbol.eq M.stands_for }
     requires clones { ClonesAreEqual M.Symbol.eq M.Symbol.is_clone }
+    // The decoder made of the model has no two equal symbols. Making it compares none.
     requires distinct { IsDistinct M.Symbol.eq (symbols_of (M.rows model)) }
     ensures answers { IfOk result (λ both. AnswersAfter M.stands_for M.Symbol.is_clone
         (replies_by_scan PRECISION M.Probability.whole M.Symbol.eq queries.now) steps.now false
@@ -103,6 +104,7 @@ where
     requires narrow { PRECISION ≤ 63 }
     requires walked { ClonesAreEqual M.Symbol.eq M.IterableEntropyModel.stands_for }
     requires clones { ClonesAreEqual M.Symbol.eq M.Symbol.is_clone }
+    // The decoder made of the model has no two equal symbols. Making it compares none.
     requires distinct { IsDistinct M.Symbol.eq (symbols_of (M.rows model)) }
     ensures by_model { IfOk result (λ answers. AreRepliesOf M.DecoderModel.stands_for
         (replies_by_scan PRECISION M.Probability.whole M.Symbol.eq queries.now (M.rows model))
