@@ -5,9 +5,11 @@ import os
 import pathlib
 import re
 import shutil
+import signal
 import subprocess
 import sys
 import tempfile
+import time
 
 from sources import TOP, files_below, read
 
@@ -16,6 +18,8 @@ TARGET = f"{TOP}/bench/target"
 KERNELS = "constriction_kernels"
 OF_KERNELS = "bench/kernels"
 KERNELS_USE = "constriction constriction_client constriction_words constriction_coders constriction_pack"
+# How `rt ci` says that a crate is proved.
+PROVED = re.compile(r"^rt: (\w+) (?:is kept|proved)", re.M)
 # The commands that the tools run, and where they come from.
 COMMANDS = {
     "rt": "install the kit of Rattle, whose command it is, and have it on the PATH",
@@ -83,6 +87,53 @@ def is_current(path, *more):
     parts = [f"crates/{crate}/{part}" for crate in os.listdir(f"{TOP}/crates") for part in ("src", "specs", "proofs")]
     sources = ["crates.txt", *more, *(it for part in parts for it in files_below(part, ""))]
     return os.path.exists(path) and all(os.path.getmtime(f"{TOP}/{it}") <= os.path.getmtime(path) for it in sources)
+
+
+def lines_below(crates):
+    """Returns the lines of crates.txt of crates, and those of the crates below them, by their names."""
+    lines = {it.partition(":")[0]: it for it in read("crates.txt").splitlines()}
+    found, names = {}, [*crates]
+    for name in names:
+        if name in lines and name not in found:
+            found[name] = lines[name]
+            names += lines[name].partition(":")[2].split()
+    return found
+
+
+def copy_crates(lines, folder):
+    """Copies crates but for their wrong bodies, and what else rt reads."""
+    shutil.copy(f"{TOP}/HANDLES", folder)
+    with open(f"{folder}/crates.txt", "w", encoding="utf-8") as file:
+        file.writelines(f"{it}\n" for it in lines.values())
+    for name in lines:
+        os.makedirs(f"{folder}/crates/{name}")
+        for path in (f"crates/{name}/{part}" for part in ("src", "specs", "proofs", "stdin", "stdout")):
+            if os.path.exists(f"{TOP}/{path}"):
+                (shutil.copytree if os.path.isdir(f"{TOP}/{path}") else shutil.copy)(f"{TOP}/{path}", f"{folder}/{path}")
+
+
+def prove(crates, folder):
+    """Proves crates and those below them, without their wrong bodies, in a copy in a folder, and builds the programs among them.
+
+    `rt ci` keeps what it proves for each later run of it on this machine, that of the gate too. It proves all that it finds, so it runs in a
+    copy. Each ten seconds standard error is told how far it is. Returns what rt said if not all is proved, else nothing.
+    """
+    started, lines = time.time(), lines_below(crates)
+    copy_crates(lines, folder)
+    with tempfile.TemporaryFile("w+", errors="replace") as file:
+        ran = subprocess.Popen(["rt", "ci"], cwd=folder, stdin=subprocess.DEVNULL, stdout=file, stderr=subprocess.STDOUT)
+        try:
+            while ran.poll() is None:
+                time.sleep(1)
+                said = os.pread(file.fileno(), os.fstat(file.fileno()).st_size, 0).decode(errors="replace")
+                if (seconds := int(time.time() - started)) % 10 == 0:
+                    say(f"{seconds} s: {len(set(PROVED.findall(said)))} of {len(lines)} crates are proved")
+        finally:
+            if ran.poll() is None:
+                # it ends the proofs that run
+                ran.send_signal(signal.SIGINT)
+        file.seek(0)
+        return file.read() if ran.wait() else ""
 
 
 def add_tried(crate, is_alone):
