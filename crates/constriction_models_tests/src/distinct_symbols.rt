@@ -5,7 +5,7 @@ ghost use Rattle.std.specs.List.{IsDistinct};
 ghost use Rattle.constriction.specs.Rows.{symbols_of};
 
 use crate::checks::same;
-use crate::model_checks::{Encoder, has_row, small};
+use crate::model_checks::{has_row, small};
 use constriction::laws::{
     contiguous_symbols_differ, non_contiguous_symbols_differ, symbols_and_weights_rebuild,
 };
@@ -17,7 +17,6 @@ use constriction::stream::model::{
 use constriction_test_support::any_symbols::{Decoder, SYMBOLS, WEIGHTS, plain};
 use constriction_test_support::contiguous::Small;
 use std::alloc::Global;
-use std::iter;
 use std::process::Abort;
 
 type Numbers = NonContiguousCategoricalDecoderModel<usize, u8, Vec<(u8, usize)>, 6>;
@@ -88,43 +87,4 @@ fn models_whose_symbols_differ_are_converted_without_comparing(rt: HostRuntime) 
     looks_up(&rt, of_contiguous(rt.alloc(), &small(&rt, rt.alloc())), 2);
     let model = hashed(rt.alloc()).expect(&rt, "a model");
     has_row(&rt, &again(rt.alloc(), &model).expect(&rt, "a model"));
-}
-
-/// The errors of decoder models of 2^60 numbers, by the constructors that compare and that hash.
-fn refused_decoders(alloc: Global) -> [Option<ModelError>; 2] {
-    let compared = Numbers::from_symbols_and_nonzero_fixed_point_probabilities(
-        alloc,
-        0..1 << 60,
-        iter::repeat_n(1, 1 << 60),
-        false,
-    );
-    let hashed = Numbers::from_hashable_symbols_and_nonzero_fixed_point_probabilities(
-        alloc,
-        0..1 << 60,
-        iter::repeat_n(1, 1 << 60),
-        false,
-    );
-    [compared.err(), hashed.err()]
-}
-
-/// The error of their encoder model.
-fn refused_encoder(alloc: Global) -> Option<ModelError> {
-    let made = Encoder::<usize, 6>::from_symbols_and_nonzero_fixed_point_probabilities(
-        alloc,
-        0..1 << 60,
-        iter::repeat_n(1, 1 << 60),
-        false,
-    );
-    made.err()
-}
-
-/// The constructors ask for no more memory than the longest accepted list needs, so 2^60 symbols
-/// are refused as invalid. Memory for all announced symbols would be refused.
-#[test]
-fn an_announced_number_of_symbols_takes_no_memory_that_accepted_ones_would_not(rt: HostRuntime) {
-    let invalid = Some(ModelError::InvalidTable);
-    let refused = refused_decoders(rt.alloc());
-    same(&rt, refused, [Some(ModelError::InvalidTable), invalid]);
-    let refused = refused_encoder(rt.alloc());
-    same(&rt, refused, Some(ModelError::InvalidTable));
 }

@@ -1,6 +1,5 @@
 //! The tests of entropy models, of the counted search and of lookup models: callers that rely on
-//! contracts alone, types and models of a caller's own, how many questions a search asks, how large
-//! lookup tables are, refused memory, and time.
+//! contracts alone, types and models of a caller's own, how many questions a search asks, and time.
 //!
 //! The libraries have no tests of their own, because a library with tests is proved twice. These
 //! tests use the public interface alone. Those of the folder `tried` are run and not proved.
@@ -29,6 +28,6 @@ mod reweighted;
 #[cfg(test)]
 mod search;
 #[cfg(test)]
-mod watched_symbols;
+mod watched_model;
 #[cfg(test)]
 mod wide_slots;

@@ -2,7 +2,7 @@
 //! and what it asks of the model.
 
 use crate::checks::{same, same_at};
-use crate::watched_symbols::{Decoder, sixteen};
+use crate::watched_model::{Decoder, sixteen};
 use constriction::stream::model::{
     AnswersRows, CdfEntry, CumulativeAndSymbol, DecoderModel, EntropyModel, LookupDecoderModel,
     StoresRows, Weight, is_quantile,

@@ -8,11 +8,10 @@ ghost use Rattle.constriction.specs.ModelRows.{contiguous_model_rows};
 ghost use Rattle.constriction.specs.Precision.{IsPrecision};
 ghost use Rattle.constriction.specs.Rows.{contiguous_rows};
 
-use crate::checks::{same, same_at, shows};
+use crate::checks::{same, same_at};
 use crate::model_checks::small;
 use constriction::stream::model::{ContiguousCategoricalEntropyModel, DecoderModel, ModelError};
-use constriction_test_support::contiguous::{Small, Weighted, weighted};
-use std::alloc::Global;
+use constriction_test_support::contiguous::Small;
 use std::process::Abort;
 
 /// A model over a cdf that it borrows.
@@ -56,51 +55,6 @@ fn over<'c, const PRECISION: usize>(cdf: &'c [u8]) -> Option<Over<'c, PRECISION>
     match Over::<PRECISION>::from_cdf(cdf) {
         Ok(model) => Some(model),
         Err(_) => None,
-    }
-}
-
-/// Asserts that a model with other weights has this cdf, whatever the answer.
-fn becomes<const PRECISION: usize>(
-    rt: &impl Abort,
-    alloc: Global,
-    model: &mut Weighted<PRECISION>,
-    weights: &[u8],
-    infer: bool,
-    answer: Result<(), ModelError>,
-    cdf: &str,
-) {
-    same_at(rt, cdf, model.set_weights(weights, infer), answer);
-    shows(rt, alloc, &*model, cdf);
-}
-
-const INVALID: Result<(), ModelError> = Err(ModelError::InvalidTable);
-
-/// Weights, whether the last is inferred, the answer, and the cdf after it.
-const SIX_BITS: [(&[u8], bool, Result<(), ModelError>, &str); 3] = [
-    (&[10, 20, 34], false, Ok(()), "[0, 10, 30, 64]"),
-    (&[10, 20, 35], false, INVALID, "[0, 10, 30, 64]"),
-    (&[1, 1, 1, 1, 1], true, Ok(()), "[0, 1, 2, 3, 4, 5, 64]"),
-];
-
-#[test]
-fn other_weights_are_written_in_place_and_refused_ones_are_not(rt: HostRuntime) {
-    let mut model = small(&rt, rt.alloc());
-    for (weights, infer, answer, cdf) in &SIX_BITS {
-        becomes(&rt, rt.alloc(), &mut model, *weights, *infer, *answer, *cdf);
-    }
-}
-
-/// Over 8 bits of `u8` the total is no word.
-const EIGHT_BITS: [(&[u8], bool, Result<(), ModelError>, &str); 2] = [
-    (&[], true, INVALID, "[0, 1, 0]"),
-    (&[7, 8], true, Ok(()), "[0, 7, 15, 0]"),
-];
-
-#[test]
-fn other_weights_of_the_full_width_are_set(rt: HostRuntime) {
-    let mut model = weighted::<8>(rt.alloc(), &[1, 255], false).expect(&rt, "accepted");
-    for (weights, infer, answer, cdf) in &EIGHT_BITS {
-        becomes(&rt, rt.alloc(), &mut model, *weights, *infer, *answer, *cdf);
     }
 }
 

@@ -106,29 +106,6 @@ fn a_probe_that_is_not_asked_afterwards_is_searched_by_as_many_questions(rt: Hos
     }
 }
 
-#[test]
-fn stored_entries_tell_their_cumulatives(rt: HostRuntime) {
-    same(&rt, <Cumulative as CdfEntry<u8>>::cumulative_of(&7), 7);
-    same(
-        &rt,
-        <CumulativeAndSymbol as CdfEntry<(u16, char)>>::cumulative_of(&(9, 'a')),
-        9,
-    );
-}
-
-#[test]
-fn a_probe_of_stored_entries_counts_its_questions(rt: HostRuntime) {
-    let entries: [u8; 4] = [0, 3, 21, 22];
-    let mut rows = CdfProbe::<u8, Cumulative>::new(entries.as_slice());
-    same(&rt, [rows.len(), rows.asked()], [4, 0]);
-    same(&rt, row_of_quantile(&mut rows, 21), 2);
-    same(&rt, rows.asked(), 2);
-    let entry = [0u8];
-    let mut rows = CdfProbe::<u8, Cumulative>::new(entry.as_slice());
-    same(&rt, row_of_quantile(&mut rows, 21), 0);
-    same(&rt, rows.asked(), 0);
-}
-
 type Wide = DefaultContiguousCategoricalEntropyModel;
 
 /// Whether the last of the four quantiles from `left` on has the row of this symbol, and the
