@@ -6,8 +6,8 @@ ghost use Rattle.std.specs.Option.{option_map};
 use crate::checks::{same, vec_of};
 use constriction_backends::{
     AsSeekReadWords, BoundedReadWords, FallibleCallbackWriteWords, FallibleIteratorReadWords,
-    FusedWords, InfallibleCallbackWriteWords, InfallibleIteratorReadWords, IntoReadWords,
-    ReadWords, WriteWords, laws,
+    InfallibleCallbackWriteWords, InfallibleIteratorReadWords, IntoReadWords, ReadWords,
+    WriteWords, laws,
 };
 use constriction_words::{Queue, UnwrapInfallible};
 use std::convert::Infallible;
@@ -107,36 +107,7 @@ fn calls_of_two(first: u8, second: u8) -> (u8, bool)
     (calls, refused)
 }
 
-/// An iterator that gives `None` at its second call, and goes on after it.
-#[derive(Drop)]
-struct Gapped {
-    calls: u8,
-}
-
-impl Iterator for Gapped {
-    type Item = u8;
-
-    fn next(&mut self) -> Option<u8> {
-        self.calls = self.calls.saturating_add(1);
-        if self.calls == 2 {
-            None
-        } else {
-            Some(self.calls)
-        }
-    }
-}
-
 type Read = Result<Option<u8>, Infallible>;
-
-#[test]
-fn the_end_of_an_iterator_is_for_good(rt: HostRuntime) {
-    let mut source = InfallibleIteratorReadWords::new(Gapped { calls: 0 });
-    for expected in [Some(1), None, None, None] {
-        same(&rt, ReadWords::<u8, Queue>::read(&mut source), Ok(expected));
-    }
-    let mut left: FusedWords<Gapped> = source.into_iter();
-    same(&rt, left.next(), None);
-}
 
 /// Two words, with an error between them.
 const ITEMS: [Result<u8, char>; 3] = [Ok(1), Err('x'), Ok(2)];

@@ -4,30 +4,10 @@ ghost use Rattle.std.specs.Prelude.{◌≡◌};
 
 use crate::checks::{is_at, same, vec_of};
 use constriction_backends::{
-    BoundedReadWords, BoundedWriteError, BoundedWriteWords, Cursor, ReadWords, Reverse, SafeBufMut,
-    WriteWords, laws,
+    BoundedWriteError, BoundedWriteWords, Cursor, ReadWords, Reverse, SafeBufMut, laws,
 };
-use constriction_test_support::marked::Marked;
-use constriction_words::{Pos, Queue, Seek, Semantics, Stack, UnwrapInfallible};
+use constriction_words::{Queue, Seek, Semantics, Stack};
 use std::convert::Infallible;
-use std::process::Abort;
-
-/// Writes to a cursor of four words at 0, reverses it, writes to it again, and reverses it back.
-fn is_written_from_both_ends<Buf: SafeBufMut<u8> + Drop>(rt: &impl Abort, buf: Buf) {
-    let mut cursor = Cursor::<u8, Buf>::new_at_write_beginning(buf);
-    same(rt, (cursor.write(1), cursor.write(2)), (Ok(()), Ok(())));
-    let mut turned = cursor.into_reversed();
-    is_at(rt, &turned.0, 2, [0, 0, 2, 1]);
-    same(rt, turned.write(9), Ok(()));
-    is_at(rt, &turned.0, 1, [0, 9, 2, 1]);
-    is_at(rt, &turned.into_reversed(), 3, [1, 2, 9, 0]);
-}
-
-#[test]
-fn a_buffer_of_the_caller_is_written_from_both_ends(rt: HostRuntime) {
-    let words = vec_of(&rt, rt.alloc(), &[0, 0, 0, 0]);
-    is_written_from_both_ends(&rt, Marked::new(words));
-}
 
 /// What `maybe_exhausted` answers of a source of one word, before that word is read and after it.
 fn may_be_exhausted<S: Semantics, Source>(source: &mut Source) -> [bool; 2]
@@ -56,21 +36,6 @@ fn a_reversal_may_be_exhausted_where_its_backend_may(rt: HostRuntime) {
         ],
         [[false, true]; 3],
     );
-}
-
-/// Of a reversed stack, read as a queue: the number of its words, the word that it reads, and then
-/// their number and its position.
-fn read_as_a_queue(reversed: &mut Reverse<Vec<u8>>) -> (usize, Option<u8>, usize, usize) {
-    let count = BoundedReadWords::<u8, Queue>::remaining(reversed);
-    let word = ReadWords::<u8, Queue>::read(reversed).unwrap_infallible();
-    let left = BoundedReadWords::<u8, Queue>::remaining(reversed);
-    (count, word, left, reversed.pos())
-}
-
-#[test]
-fn a_reversed_stack_is_read_as_a_queue(rt: HostRuntime) {
-    let mut reversed = Reverse(vec_of(&rt, rt.alloc(), &[1, 2, 3]));
-    same(&rt, read_as_a_queue(&mut reversed), (3, Some(3), 2, 2));
 }
 
 /// Reverses a cursor twice. By the law the caller knows that the result is the same cursor.

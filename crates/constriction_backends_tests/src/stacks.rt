@@ -5,7 +5,6 @@ ghost use Rattle.std.specs.Prelude.{◌≡◌, ◌<◌, [], Some, None, Ok, IfSo
 use crate::checks::{holds, same, vec_of};
 use constriction_backends::{Cursor, ReadWords, Reverse, StackSource, WordStack, WriteWords, laws};
 use constriction_words::{Queue, ReadWriteError, Stack};
-use linked_list_allocator::LocalHeap;
 use smallvec::SmallVec;
 use std::alloc::{AllocError, Global};
 use std::convert::Infallible;
@@ -14,107 +13,15 @@ use std::process::Abort;
 use std::slice::Iter;
 
 /// A stack that holds up to two words inline.
-type Two = SmallVec<u8, 2>;
+pub type Two = SmallVec<u8, 2>;
 
 /// What a stack answers to the words of an iterator.
-fn extended<W>(words: &mut W, more: &[u8]) -> Result<(), AllocError>
+pub fn extended<W>(words: &mut W, more: &[u8]) -> Result<(), AllocError>
 where
     W: WriteWords<u8, WriteError = AllocError>,
     requires { W.can_write words.old }
 {
     words.extend_from_iter(more.iter().copied())
-}
-
-const NINE: [u8; 9] = [1, 2, 3, 4, 5, 6, 7, 8, 9];
-
-/// `count` times the word 7. The test fails if memory is refused.
-fn sevens(rt: &impl Abort, alloc: Global, count: usize) -> Vec<u8> {
-    let Ok(words) = vec![in alloc; 7u8; count] else {
-        panic!(rt; "memory was refused");
-    };
-    words
-}
-
-/// Many more words than in the other tests succeed too: 100,000, and a copy of them.
-#[test]
-fn a_hundred_thousand_words_are_written_and_copied(rt: HostRuntime) {
-    let many = sevens(&rt, rt.alloc(), 100_000);
-    let mut small: Two = SmallVec::new(rt.alloc());
-    same(&rt, extended(&mut small, &many), Ok(()));
-    same(&rt, small.len(), 100_000);
-    let mut words = Vec::new(rt.alloc());
-    same(&rt, extended(&mut words, &many), Ok(()));
-    let copy = Cursor::<u8, _>::new_at_write_end(words).cloned(rt.alloc());
-    holds(&rt, copy.expect(&rt, "memory").buf(), &many);
-}
-
-/// How often a `Vec` gets other memory while it takes 100,000 words.
-fn growths(rt: &impl Abort, mut words: Vec<u8>) -> usize {
-    let mut growths = 0usize;
-    for _ in 0..100_000 {
-        let capacity = words.capacity();
-        same(rt, words.write(7), Ok(()));
-        growths = growths.wrapping_add(usize::from(words.capacity() != capacity));
-    }
-    growths
-}
-
-/// The same for a `SmallVec`.
-fn small_growths(rt: &impl Abort, mut words: Two) -> usize {
-    let mut growths = 0usize;
-    for _ in 0..100_000 {
-        let capacity = words.capacity();
-        same(rt, words.write(7), Ok(()));
-        growths = growths.wrapping_add(usize::from(words.capacity() != capacity));
-    }
-    growths
-}
-
-/// A stack that is full gets twice the memory.
-#[test]
-fn a_stack_of_100_000_words_has_grown_at_most_twenty_times(rt: HostRuntime) {
-    same(&rt, growths(&rt, Vec::new(rt.alloc())) <= 20, true);
-    same(
-        &rt,
-        small_growths(&rt, SmallVec::new(rt.alloc())) <= 20,
-        true,
-    );
-}
-
-/// A stack that holds up to two words inline, and takes memory for more from a heap.
-type TwoOf<'h> = SmallVec<u8, 2, &'h LocalHeap>;
-
-/// The words before one that is refused, at most.
-const KEPT: [u8; 16] = [0, 1, 2, 3, 4, 5, 6, 7, 8, 9, 10, 11, 12, 13, 14, 15];
-
-/// Writes words until one is refused, reads one, and writes another. Nothing else is lost.
-fn keeps_its_words(rt: &impl Abort, heap: &LocalHeap, kept: &[u8]) {
-    let mut words: TwoOf = SmallVec::new(heap);
-    same(rt, words.extend_from_iter(0..99), Err(AllocError));
-    for _ in 0..2 {
-        same(rt, words.write(9), Err(AllocError));
-    }
-    same(rt, words.as_slice(), kept);
-    let last = kept.last().copied();
-    same(rt, ReadWords::<u8, Stack>::read(&mut words), Ok(last));
-    same(rt, words.write(77), Ok(()));
-    same(
-        rt,
-        (words.len(), words.last().copied()),
-        (kept.len(), Some(77)),
-    );
-}
-
-/// A heap of 32 bytes gives sixteen at a time. If all are taken, the first request of a stack is
-/// refused, for four words; if half are, the second, for eight; and if none is, the fourth, for 32.
-#[test]
-fn a_stack_keeps_its_words_where_each_request_is_refused(rt: HostRuntime) {
-    for (taken, kept) in [(32, 2), (16, 4), (0, 16)] {
-        let heap = LocalHeap::new(rt.alloc(), 32).expect(&rt, "memory");
-        let others: Vec<u8, &LocalHeap> = Vec::with_capacity(&heap, taken).expect(&rt, "memory");
-        keeps_its_words(&rt, &heap, &KEPT[..kept]);
-        drop(others);
-    }
 }
 
 /// The word that comes back from a `Vec`, or an error if memory is refused.
@@ -221,6 +128,8 @@ where
     let read = there_and_back(&mut backend, 1, 2);
     same(rt, read, Some((Some(2), Some(1))));
 }
+
+const NINE: [u8; 9] = [1, 2, 3, 4, 5, 6, 7, 8, 9];
 
 #[test]
 fn any_stack_gives_back_what_was_written(rt: HostRuntime) {
