@@ -2,7 +2,7 @@
 //! from the description of the format.
 
 use crate::checks::{holds, same};
-use crate::packing::{are_refused_if_flipped, unpacking_status};
+use crate::packed_files::{are_refused_if_flipped, unpacking_status};
 use constriction_pack::{Kind, Level, PackError, pack, pack_block, unpack_block};
 use std::alloc::Global;
 use std::process::Abort;

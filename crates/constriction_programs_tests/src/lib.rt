@@ -4,7 +4,7 @@
 //! `constriction_coder_program`.
 //!
 //! The libraries have no tests of their own, because a library with tests is proved twice. These
-//! tests use the public interface alone.
+//! tests use the public interface alone. Those of the folder `tried` are run and not proved.
 #![tactic(auto)]
 
 #[cfg(test)]
@@ -16,7 +16,11 @@ mod known;
 #[cfg(test)]
 mod learned;
 #[cfg(test)]
+mod longest_input;
+#[cfg(test)]
 mod mixed;
+#[cfg(test)]
+mod packed_files;
 #[cfg(test)]
 mod packing;
 #[cfg(test)]

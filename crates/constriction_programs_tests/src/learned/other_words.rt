@@ -1,69 +1,20 @@
-//! Words that are cut or damaged, and a decoder whose model has other symbols.
+//! Stacks whose words are cut or damaged, and a decoder whose model has other symbols.
 
 ghost use Rattle.std.specs.Prelude.{List, refl};
 ghost use Rattle.constriction.specs.Rows.{Row};
 
 use crate::checks::{holds, same};
 use crate::learned::{ByTurns, SYMBOLS, letters};
-use constriction::CoderError;
 use constriction::backends::Cursor;
 use constriction::stream::model::{
     ContiguousCategoricalEntropyModel, DecoderModel, EncoderModel, EntropyModel,
 };
 use constriction_adaptive::{Bit, Predictor, decode_adaptively, queue, stack};
-use constriction_coders::queue::DecoderFrontendError;
 use constriction_coders::stack::AnsCoder;
 use std::alloc::AllocError;
 
-/// The words of the letters in a range coder, whole, cut and damaged, and the letters that they
-/// give by the formulas. A missing word is 0.
-const MESSAGES: [(&[u32], [usize; 7]); 4] = [
-    (&[0x03C2_4257, 0xFFFF_FF5F], SYMBOLS),
-    (&[], [0; 7]),
-    (&[0x03C2_4257], [0, 2, 1, 1, 0, 1, 2]),
-    (&[0x03D2_4257, 0xFFFF_FF5F], [0, 2, 2, 0, 2, 0, 2]),
-];
-
-#[test]
-fn a_message_that_is_cut_or_damaged_gives_other_letters(rt: HostRuntime) {
-    let alloc = rt.alloc();
-    let this = letters(&rt, alloc, [1, 2, 61]);
-    let other = letters(&rt, alloc, [40, 20, 4]);
-    for (words, expected) in &MESSAGES {
-        let mut decoding = ByTurns {
-            this: &this,
-            other: &other,
-            room: 7,
-        };
-        let source = Cursor::<u32, &[u32]>::new_at_write_beginning(words);
-        match queue::decode_message(alloc, &mut decoding, 7, source) {
-            Ok(answers) => holds(&rt, &answers, expected),
-            Err(_) => panic!(&rt; "the letters were not decoded"),
-        }
-    }
-}
-
-/// A point above all quantiles is invalid, at the first letter or at a later one. The letters
-/// before it stay learned.
-#[test]
-fn an_invalid_letter_is_not_learned(rt: HostRuntime) {
-    let alloc = rt.alloc();
-    let this = letters(&rt, alloc, [1, 2, 61]);
-    let mut decoding = ByTurns {
-        this: &this,
-        other: &this,
-        room: 8,
-    };
-    for (words, room) in [([u32::MAX; 2], 8), ([0x03FF_FFFF, 0xFFFF_FFFE], 7)] {
-        let source = Cursor::<u32, [u32; 2]>::new_at_write_beginning(words);
-        let refused = queue::decode_message(alloc, &mut decoding, 7, source);
-        let invalid = CoderError::Frontend(DecoderFrontendError::InvalidData);
-        same(&rt, refused.err(), Some(invalid));
-        same(&rt, decoding.room, room);
-    }
-}
-
-/// The same on a stack, where any words give letters.
+/// The words of the letters on a stack, whole, cut and damaged, and the letters that they give by
+/// the formulas. Any words give letters.
 const STACKS: [(&[u32], [usize; 7]); 4] = [
     (&[0x1814_0F40], SYMBOLS),
     (&[], [0; 7]),
