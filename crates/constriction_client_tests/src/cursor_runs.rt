@@ -13,7 +13,7 @@ use constriction_words::Pos;
 use std::alloc::{AllocError, Global};
 use std::process::Abort;
 
-type BothReplies = Result<(Vec<CursorReply<u8>>, Vec<CursorReply<u8>>), AllocError>;
+pub type BothReplies = Result<(Vec<CursorReply<u8>>, Vec<CursorReply<u8>>), AllocError>;
 
 /// Calls of a cursor over 10, 20, 30 at 1, and the replies to them.
 const CALLS: [CursorCall<u8>; 9] = [
@@ -41,13 +41,13 @@ const REPLIES: [CursorReply<u8>; 9] = [
 ];
 
 /// A cursor over these words at 1.
-fn at_1<Buf: SafeBufMut<u8> + Drop>(rt: &impl Abort, buf: Buf) -> Cursor<u8, Buf> {
+pub fn at_1<Buf: SafeBufMut<u8> + Drop>(rt: &impl Abort, buf: Buf) -> Cursor<u8, Buf> {
     Cursor::<u8, Buf>::new_at_pos_mut(buf, 1).expect(rt, "1 is a position")
 }
 
 /// Runs the calls on a cursor, and then on another one. By the law the replies are the same if one
 /// cursor is the reversal of the other.
-fn one_after_the_other<Buf: SafeBufMut<u8>, Turned: SafeBufMut<u8>>(
+pub fn one_after_the_other<Buf: SafeBufMut<u8>, Turned: SafeBufMut<u8>>(
     alloc: Global,
     cursor: &mut Cursor<u8, Buf>,
     reversed: &mut Reverse<Cursor<u8, Turned>>,
@@ -64,14 +64,14 @@ fn one_after_the_other<Buf: SafeBufMut<u8>, Turned: SafeBufMut<u8>>(
 }
 
 /// Asserts that both replied this.
-fn both_are(rt: &impl Abort, found: BothReplies, expected: &[CursorReply<u8>]) {
+pub fn both_are(rt: &impl Abort, found: BothReplies, expected: &[CursorReply<u8>]) {
     let (replies, others) = found.expect(rt, "memory");
     holds(rt, &replies, expected);
     holds(rt, &others, expected);
 }
 
 /// A buffer of a caller's own, with 10, 20, 30.
-fn marked(rt: &impl Abort, alloc: Global) -> Marked {
+pub fn marked(rt: &impl Abort, alloc: Global) -> Marked {
     Marked::new(vec_of(rt, alloc, &[10, 20, 30]))
 }
 
@@ -95,7 +95,7 @@ fn a_cursor_over_a_buffer_of_the_caller_and_its_reversal_reply_the_same(rt: Host
 
 /// The replies of a cursor and of the reversal of a copy of it. They are the same, whatever the
 /// calls are.
-fn replies_of_both<Buf: SafeBufMut<u8>>(
+pub fn replies_of_both<Buf: SafeBufMut<u8>>(
     alloc: Global,
     cursor: &mut Cursor<u8, Buf>,
     calls: &[CursorCall<u8>],
@@ -114,35 +114,4 @@ fn a_cursor_and_its_reversal_are_run_together(rt: HostRuntime) {
     let found = replies_of_both(rt.alloc(), &mut cursor, &CALLS);
     both_are(&rt, found, &REPLIES);
     same(&rt, words, [10, 99, 30]);
-}
-
-/// Five thousand seeks.
-fn seeks(rt: &impl Abort, alloc: Global) -> Vec<CursorCall<u8>> {
-    let mut calls = Vec::new(alloc);
-    for turn in 0..5000usize {
-        calls.push(CursorCall::Seek(turn % 4)).expect(rt, "memory");
-    }
-    calls
-}
-
-/// The replies to them.
-fn moves(rt: &impl Abort, alloc: Global) -> Vec<CursorReply<u8>> {
-    let mut replies = Vec::new(alloc);
-    for _ in 0..5000 {
-        replies.push(CursorReply::Moved).expect(rt, "memory");
-    }
-    replies
-}
-
-#[test]
-fn five_thousand_calls_are_run(rt: HostRuntime) {
-    let alloc = rt.alloc();
-    let calls = seeks(&rt, alloc);
-    let replies = moves(&rt, alloc);
-    let mut cursor = at_1(&rt, marked(&rt, alloc));
-    let mut reversed = at_1(&rt, marked(&rt, alloc)).into_reversed();
-    let found = one_after_the_other(alloc, &mut cursor, &mut reversed, &calls);
-    both_are(&rt, found, &replies);
-    let found = replies_of_both(alloc, &mut cursor, &calls);
-    both_are(&rt, found, &replies);
 }

@@ -19,5 +19,3 @@ mod known_models;
 mod known_theorem;
 #[cfg(test)]
 mod own_ends;
-#[cfg(test)]
-mod queries;
