@@ -1,6 +1,5 @@
 -- Coders that are opened over all words of a buffer, which they only read, and sought to a place in it.
-use Rattle.std.proofs.Common.{◌≡◌, ℕ, List, [], ◌∷◌, ◌++◌, length, take, Option, Some, None, Result, Ok, sym, ap, ◌∙◌, inl, inr}
-use Rattle.std.proofs.Math.Seq.{take-length}
+use Rattle.std.proofs.Common.{◌≡◌, ℕ, List, [], ◌∷◌, ◌++◌, length, Option, Some, None, Result, Ok, sym, ap, ◌∙◌, inl, inr}
 use Rattle.std.proofs.lemmas.List.{append-nil}
 use Rattle.std.specs.Prelude.{IsOk}
 use Rattle.std.specs.declared.fmt.Debug as shown
@@ -14,11 +13,6 @@ use Rattle.constriction_coders.specs.Compressed.{AreAllWordsOf, IsCompressed}
 use Rattle.constriction_coders.specs.Positions.{PlaceComesBack, SeeksPlace}
 use Rattle.constriction_coders.specs.Steps.{Content, MayBeHeld, IsEncoded}
 use Rattle.constriction_coders.specs.declared.stack.ans_coder.AnsCoder.{AnsCoder}
-
--- a cursor after the last word of a buffer has all words before it
-pub all-before : {B : Type 0} (words_of : B → List ℕ) (buf whole : B) (pos : ℕ) → buf ≡ whole → pos ≡ length (words_of whole)
-    → take pos (words_of buf) ≡ words_of whole
-all-before words_of buf whole pos same at = rw (same, at) (take-length (words_of whole))
 
 -- reads in a row keep what each of them keeps
 reads-keep : {S E Part : Type 0} (gives : S → Result (Option ℕ) E → S → Type 0) (part : S → Part)

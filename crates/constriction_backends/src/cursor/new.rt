@@ -1,7 +1,7 @@
 //! Constructors of cursors.
 
 ghost use Rattle.std.specs.Prelude.{◌≡◌, ◌≤◌, ◌↔◌, length, IfOk, IsOk};
-ghost use Rattle.constriction_backends.specs.Cursor.{buf_of, pos_of, buf_and_pos};
+ghost use Rattle.constriction_backends.specs.Cursor.{buf_of, pos_of, buf_and_pos, state_of};
 
 use crate::cursor::Cursor;
 use constriction_buffers::{SafeBuf, SafeBufMut};
@@ -12,7 +12,8 @@ impl<Word, Buf: SafeBuf<Word>> Cursor<Word, Buf> {
     /// A cursor before the first word: nothing was written, and a queue reads from the beginning.
     #[inline]
     pub fn new_at_write_beginning(buf: Buf) -> Self
-        ensures { buf_and_pos result ≡ (buf, 0) }
+        ensures parts { buf_and_pos result ≡ (buf, 0) }
+        ensures ahead { (state_of result).after ≡ Buf.words_of buf }
     {
         Cursor {
             buf,
@@ -24,7 +25,8 @@ impl<Word, Buf: SafeBuf<Word>> Cursor<Word, Buf> {
     /// A cursor after the last word: everything was written, and a stack reads from the end.
     #[inline]
     pub fn new_at_write_end(buf: Buf) -> Self
-        ensures { buf_and_pos result ≡ (buf, length (Buf.words_of buf)) }
+        ensures parts { buf_and_pos result ≡ (buf, length (Buf.words_of buf)) }
+        ensures behind { (state_of result).before ≡ Buf.words_of buf }
     {
         let pos = buf.words().len();
         Cursor {
@@ -59,7 +61,8 @@ impl<Word, Buf: SafeBufMut<Word>> Cursor<Word, Buf> {
     /// As [`new_at_write_end`](Cursor::new_at_write_end), over a buffer that can be written.
     #[inline]
     pub fn new_at_write_end_mut(buf: Buf) -> Self
-        ensures { buf_and_pos result ≡ (buf, length (Buf.words_of buf)) }
+        ensures parts { buf_and_pos result ≡ (buf, length (Buf.words_of buf)) }
+        ensures behind { (state_of result).before ≡ Buf.words_of buf }
     {
         Cursor::new_at_write_end(buf)
     }

@@ -1,4 +1,4 @@
-use Rattle.std.proofs.Common.{◌≡◌, ◌<◌, length, map, drop, ap, sym, ◌∙◌, arith}
+use Rattle.std.proofs.Common.{◌≡◌, ◌<◌, length, map, sym, ◌∙◌, arith}
 use Rattle.std.proofs.lemmas.List.{length-map}
 use Rattle.constriction.specs.Acceptance.{AreAccepted}
 use Rattle.constriction.specs.Rows.{Row, rows_of}
@@ -20,9 +20,7 @@ pub returns-in-Ok-read_model-clause-rows : goal.returns-in-Ok-read_model-clause-
 returns-in-Ok-read_model-clause-rows g c =
     let rows = g.M.EntropyModel.rows c.args.model in
     let weights = map (λ (r : Row g.row.M-Symbol.Denot). r.weight) rows in
-    let source = c.new_at_write_beginning-source in
-    let coming : weights_as_words weights ≡ drop source.result.pos source.result.buf.items =
-    rw (ap (λ p. p.1) source.ensures, ap (λ p. p.0) source.ensures) (c.in-Ok.ensures.ok.known _ (sym c.new-words.ensures.items)) in
+    let coming = c.in-Ok.ensures.ok.known _ (sym c.new-words.ensures.items) ∙ sym c.new_at_write_beginning-source.ensures.ahead in
     let table = c.in-Ok-read_model.ensures.ok in
     let read = table.reads.known (weights_as_words weights) coming in
     let same : table.weights ≡ weights = same-weights weights table.weights read.0 read.1 in
@@ -33,9 +31,7 @@ returns-in-Ok-read_model-clause-rows g c =
 pub returns-clause-whole : goal.returns-clause-whole
 returns-clause-whole g c = λ is.
     let weights = map (λ (r : Row g.row.M-Symbol.Denot). r.weight) (g.M.EntropyModel.rows c.args.model) in
-    let source = c.new_at_write_beginning-source in
-    let coming : weights_as_words weights ≡ drop source.result.pos source.result.buf.items =
-    rw (ap (λ p. p.1) source.ensures, ap (λ p. p.0) source.ensures) (c.in-Ok.ensures.ok.known _ (sym c.new-words.ensures.items)) in
+    let coming = c.in-Ok.ensures.ok.known _ (sym c.new-words.ensures.items) ∙ sym c.new_at_write_beginning-source.ensures.ahead in
     let same : c.in-Err-read_model.error ≡ CoderError.Frontend TooFewWords = cc in
     let stops = rw same at c.in-Err-read_model.ensures.err in
     let short : length weights < length weights = stops.1 (weights_as_words weights) coming in
@@ -45,9 +41,7 @@ pub returns-clause-accepted : goal.returns-clause-accepted
 returns-clause-accepted g c = λ is distinct.
     let rows = g.M.EntropyModel.rows c.args.model in
     let weights = map (λ (r : Row g.row.M-Symbol.Denot). r.weight) rows in
-    let source = c.new_at_write_beginning-source in
-    let coming : weights_as_words weights ≡ drop source.result.pos source.result.buf.items =
-    rw (ap (λ p. p.1) source.ensures, ap (λ p. p.0) source.ensures) (c.in-Ok.ensures.ok.known _ (sym c.new-words.ensures.items)) in
+    let coming = c.in-Ok.ensures.ok.known _ (sym c.new-words.ensures.items) ∙ sym c.new_at_write_beginning-source.ensures.ahead in
     let same : c.in-Err-read_model.error ≡ CoderError.Frontend NotAccepted = cc in
     let table = rw same at c.in-Err-read_model.ensures.err in
     let read = table.1.known (weights_as_words weights) coming in

@@ -1,14 +1,12 @@
-use Rattle.std.proofs.Common.{◌≡◌, drop, fold, refl, ap, sym, ◌∙◌}
+use Rattle.std.proofs.Common.{fold, ap, sym, ◌∙◌}
 use Rattle.constriction_adaptive.specs.Bytes.{all_bits, AreReadFrom}
 use Rattle.constriction_adaptive.proofs.bytes.bytes_come_back.Goals as goal
 
 pub returns-in-Ok-clause-back : goal.returns-in-Ok-clause-back
 returns-in-Ok-clause-back g c =
-    let source = c.new_at_write_beginning-source in
     let words = c.in_ok-words.words.items in
     let first = g.P.Predictor.state c.args.decoding.now in
-    let known : words ≡ drop source.result.pos source.result.buf.items =
-    rw (ap (λ p. p.1) source.ensures, ap (λ p. p.0) source.ensures) refl in
+    let known = sym c.new_at_write_beginning-source.ensures.ahead in
     let read : AreReadFrom g.P.Predictor.rows g.P.Predictor.next (g.P.Predictor.state c.args.decoding.now) c.args.bytes.now words =
     rw c.requires c.in_ok-words.ensures.read in
     c.bytes_are_read_once.ensures first c.in-Ok.again.items c.args.bytes.now words (c.in-Ok.ensures.ok words known) read c.in-Ok.ensures.count

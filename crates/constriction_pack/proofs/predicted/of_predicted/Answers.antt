@@ -1,5 +1,5 @@
 use Rattle.std.proofs.Common.{◌≡◌, ◌%◌, ◌-◌, ◌∷◌, ◌++◌, ℕ, List, [], length, length-drop, drop}
-use Rattle.std.proofs.Common.{take, ap, sym, ◌∙◌, arith, refl, subst}
+use Rattle.std.proofs.Common.{take, ap, sym, ◌∙◌, arith, subst}
 use Rattle.std.proofs.lemmas.Grind.{common_steps}
 use Rattle.std.proofs.lemmas.List.{take_all}
 use Rattle.constriction_adaptive.specs.Bytes.{AreReadFrom}
@@ -26,10 +26,8 @@ returns-in-Err-CutWord-clause-accepted g c = λ bytes p.
 pub returns-in-Ok-decode_bytes-clause-ok : goal.returns-in-Ok-decode_bytes-clause-ok
 returns-in-Ok-decode_bytes-clause-ok g c =
     let content = c.args.content.now in
-    let source = c.new_at_write_beginning-source in
     let words = c.in-Ok.words.items in
-    let known : words ≡ drop source.result.pos source.result.buf.items =
-    rw (ap (λ p. p.1) source.ensures, ap (λ p. p.0) source.ensures) refl in
+    let known = sym c.new_at_write_beginning-source.ensures.ahead in
     let laid : content ≡ bytes_of_words (c.little_endian-count.result ∷ []) ++ drop 4 content =
     grind (arith, common_steps) in
     let coded : bytes_of_words words ≡ drop 4 content = c.in-Ok.ensures.ok ∙ whole content in
@@ -45,10 +43,8 @@ returns-in-Ok-decode_bytes-clause-ok g c =
 pub returns-in-Err-Frontend-InvalidData-clause-accepted : goal.returns-in-Err-Frontend-InvalidData-clause-accepted
 returns-in-Err-Frontend-InvalidData-clause-accepted g c = λ bytes p.
     let content = c.args.content.now in
-    let source = c.new_at_write_beginning-source in
     let words = c.in-Ok.words.items in
-    let known : words ≡ drop source.result.pos source.result.buf.items =
-    rw (ap (λ q. q.1) source.ensures, ap (λ q. q.0) source.ensures) refl in
+    let known = sym c.new_at_write_beginning-source.ensures.ahead in
     let laid : content ≡ bytes_of_words (c.little_endian-count.result ∷ []) ++ drop 4 content =
     grind (arith, common_steps) in
     let e = sym laid ∙ p.laid_out in

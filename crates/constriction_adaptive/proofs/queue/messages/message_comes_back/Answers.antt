@@ -1,4 +1,4 @@
-use Rattle.std.proofs.Common.{◌≡◌, ◌++◌, [], Err, drop, fold, refl, ap, sym, ◌∙◌, arith}
+use Rattle.std.proofs.Common.{◌≡◌, [], Err, fold, refl, ap, sym, ◌∙◌, arith}
 use Rattle.std.proofs.lemmas.List.{append-nil}
 use Rattle.constriction_words.specs.declared.CoderError.TheVariants.{Frontend}
 use Rattle.constriction_coders.specs.Places.{IsMessageFrom}
@@ -8,10 +8,8 @@ use Rattle.constriction_adaptive.proofs.queue.messages.message_comes_back.Goals 
 
 pub returns-in-Ok-decode_message : goal.returns-in-Ok-decode_message
 returns-in-Ok-decode_message g c =
-    let source = c.new_at_write_beginning-source in
     let words = c.in-Ok.words.items in
-    let known : words ++ [] ≡ drop source.result.pos source.result.buf.items =
-    rw (ap (λ p. p.1) source.ensures, ap (λ p. p.0) source.ensures) (append-nil words) in
+    let known = append-nil words ∙ sym c.new_at_write_beginning-source.ensures.ahead in
     let message : IsMessageFrom (predicted_entry g.P.Predictor.rows g.P.Model.EncoderModel.symbol_eq) g.P.Predictor.next g.row.PRECISION
     (g.P.Predictor.state c.args.decoding.now) c.args.symbols.now words = rw c.requires c.in-Ok.ensures.ok in
     let both = c.in-Ok-decode_message.ensures.back c.args.symbols.now words [] refl message (λ k d h. absurd (omega (arith, h))) known in
@@ -26,10 +24,8 @@ returns-in-Ok-decode_message g c =
 
 pub returns-in-Err-decode_message-clause-valid : goal.returns-in-Err-decode_message-clause-valid
 returns-in-Err-decode_message-clause-valid g c = λ is.
-    let source = c.new_at_write_beginning-source in
     let words = c.in-Ok.words.items in
-    let known : words ++ [] ≡ drop source.result.pos source.result.buf.items =
-    rw (ap (λ p. p.1) source.ensures, ap (λ p. p.0) source.ensures) (append-nil words) in
+    let known = append-nil words ∙ sym c.new_at_write_beginning-source.ensures.ahead in
     let message : IsMessageFrom (predicted_entry g.P.Predictor.rows g.P.Model.EncoderModel.symbol_eq) g.P.Predictor.next g.row.PRECISION
     (g.P.Predictor.state c.args.decoding.now) c.args.symbols.now words = rw c.requires c.in-Ok.ensures.ok in
     let same : c.in-Err-decode_message.error ≡ Frontend InvalidData = cc in

@@ -1,4 +1,4 @@
-use Rattle.std.proofs.Common.{◌≡◌, ◌++◌, [], Err, drop, refl, ap, arith}
+use Rattle.std.proofs.Common.{◌≡◌, [], Err, refl, ap, arith, sym, ◌∙◌}
 use Rattle.std.proofs.lemmas.List.{append-nil}
 use Rattle.constriction_model.specs.lemmas.Turns.{are-equal}
 use Rattle.constriction_words.specs.declared.CoderError.TheVariants.{Frontend}
@@ -7,9 +7,7 @@ use Rattle.constriction_coders.proofs.laws.queue.message_comes_back.Goals as goa
 
 pub returns-in-Ok-message_from-clause-back : goal.returns-in-Ok-message_from-clause-back
 returns-in-Ok-message_from-clause-back g c =
-    let source = c.new_at_write_beginning-source in
-    let known : c.in-Ok.words.items ++ [] ≡ drop source.result.pos source.result.buf.items =
-    rw (ap (λ p. p.1) source.ensures, ap (λ p. p.0) source.ensures) (append-nil c.in-Ok.words.items) in
+    let known = append-nil c.in-Ok.words.items ∙ sym c.new_at_write_beginning-source.ensures.ahead in
     c.in-Ok-message_from.ensures.back c.args.symbols.now c.in-Ok.words.items [] refl c.in-Ok.ensures.ok
     (λ k d h. absurd (omega (arith, h))) known
 
@@ -20,9 +18,7 @@ returns-in-Ok-message_from-clause-equal g c = λ clones.
 
 pub returns-in-Err-message_from-clause-valid : goal.returns-in-Err-message_from-clause-valid
 returns-in-Err-message_from-clause-valid g c = λ is.
-    let source = c.new_at_write_beginning-source in
-    let known : c.in-Ok.words.items ++ [] ≡ drop source.result.pos source.result.buf.items =
-    rw (ap (λ p. p.1) source.ensures, ap (λ p. p.0) source.ensures) (append-nil c.in-Ok.words.items) in
+    let known = append-nil c.in-Ok.words.items ∙ sym c.new_at_write_beginning-source.ensures.ahead in
     let same : c.in-Err-message_from.error ≡ Frontend InvalidData = cc in
     c.in-Err-message_from.ensures.valid (ap Err same) c.args.symbols.now c.in-Ok.words.items [] refl c.in-Ok.ensures.ok
     (λ k d h. absurd (omega (arith, h))) known

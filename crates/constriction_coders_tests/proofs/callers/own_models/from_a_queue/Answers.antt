@@ -1,4 +1,4 @@
-use Rattle.std.proofs.Common.{◌≡◌, ℕ, ◌^◌, ◌<◌, ◌++◌, [], drop, refl, subst, ap}
+use Rattle.std.proofs.Common.{ℕ, ◌^◌, ◌<◌, ◌++◌, [], refl, subst, sym, ◌∙◌}
 use Rattle.std.proofs.lemmas.List.{append-nil}
 use Rattle.std.proofs.lemmas.List.Elements.{All-nil}
 use Rattle.std.specs.List.{zip}
@@ -17,9 +17,7 @@ returns-in-Ok-read_by_models g c =
     let answers = c.in-Ok-read_by_models.answers.items in
     let models = c.args.models.now in
     let words = c.in-Some.words.items in
-    let source = c.new_at_write_beginning in
-    let known : words ++ [] ≡ drop source.result.pos source.result.buf.items =
-    rw (ap (λ p. p.1) source.ensures, ap (λ p. p.0) source.ensures) (append-nil words) in
+    let known = append-nil words ∙ sym c.new_at_write_beginning.ensures.ahead in
     let sent = subst (λ ps. IsMessageOf (entry_by g.E.EncoderModel.symbol_eq g.E.EntropyModel.rows) g.row.PRECISION ps words)
     c.into_iter.ensures.rest (c.in-Some.ensures into_iter_items vec-shows) in
     let back = c.range_pairs_come_back.ensures pairs [] (zip answers models) whole sent.0 sent.0 (words ++ [])

@@ -13,7 +13,7 @@ unreachable-requires g c =
     let new = c.seek.new.self in
     let opened = c.in-Ok-from_compressed.ensures.ok in
     let there : start.words.buf.items ≡ words ++ [] =
-    rw (opened.4.1, opened.3.1, ap (λ p. p.0) c.new_at_write_beginning.ensures) (sym (append-nil words)) in
+    rw (opened.4.1, opened.3.1, ap (λ p. p.0) c.new_at_write_beginning.ensures.parts) (sym (append-nil words)) in
     let back = c.range_place_comes_back.ensures _ c.args.second.now _ _ words [] start.words.buf.items
     (held_by start) (held_by new) c.seek.result c.pos-place.ensures.reached
     c.in-Ok-encode_iid_slice.ensures.ok c.in-Ok-into_compressed.ensures.ok (All-nil (λ (w : ℕ). w < 2 ^ 32)) there
@@ -27,7 +27,7 @@ returns-in-Ok-decode_iid_vec g c =
     let new = c.seek.new.self in
     let opened = c.in-Ok-from_compressed.ensures.ok in
     let there : start.words.buf.items ≡ words ++ [] =
-    rw (opened.4.1, opened.3.1, ap (λ p. p.0) c.new_at_write_beginning.ensures) (sym (append-nil words)) in
+    rw (opened.4.1, opened.3.1, ap (λ p. p.0) c.new_at_write_beginning.ensures.parts) (sym (append-nil words)) in
     let nil = All-nil (λ (w : ℕ). w < 2 ^ 32) in
     let noted = c.encode_iid_slice.new.self in
     let last = c.encode_iid_slice-2.new.self in

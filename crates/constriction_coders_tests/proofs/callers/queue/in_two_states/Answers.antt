@@ -1,4 +1,4 @@
-use Rattle.std.proofs.Common.{◌≡◌, ◌++◌, [], true, drop, refl, ap}
+use Rattle.std.proofs.Common.{◌++◌, [], true, refl, sym, ◌∙◌}
 use Rattle.std.proofs.lemmas.List.{append-nil}
 use Rattle.constriction.specs.Rows.{entry_of}
 use Rattle.constriction_coders.specs.RangeDecoder.{held_by}
@@ -7,10 +7,8 @@ use Rattle.constriction_coders_tests.proofs.callers.queue.in_two_states.Goals as
 
 pub returns-in-Ok-decode_symbol-2 : goal.returns-in-Ok-decode_symbol-2
 returns-in-Ok-decode_symbol-2 g c =
-    let source = c.new_at_write_beginning in
     let words = c.in-Ok-into_compressed.words.items in
-    let known : words ++ [] ≡ drop source.result.pos source.result.buf.items =
-    rw (ap (λ p. p.1) source.ensures, ap (λ p. p.0) source.ensures) (append-nil words) in
+    let known = append-nil words ∙ sym c.new_at_write_beginning.ensures.ahead in
     let eq = g.M.EncoderModel.symbol_eq in
     let rows = rows_in (g.M.EntropyModel.rows c.args.first.now) (g.M.EntropyModel.rows c.args.second.now) in
     two-back g.M.DecoderModel.stands_for eq (g.M.EntropyModel.rows c.args.first.now) (g.M.EntropyModel.rows c.args.second.now) _ _

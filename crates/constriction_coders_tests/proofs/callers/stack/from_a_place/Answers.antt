@@ -10,7 +10,7 @@ unreachable-requires g c =
     let start = c.in-Ok-from_compressed.decoder in
     let kept = opened-keeps (λ s. s.buf) (λ s r t h. h.1) c.new_at_write_end.result start c.in-Ok-from_compressed.ensures.read in
     let there : start.words.buf.now ≡ c.in-Ok-into_compressed.words.items =
-    rw (kept, ap (λ p. p.0) c.new_at_write_end.ensures) c.as_slice.ensures.value in
+    rw (kept, ap (λ p. p.0) c.new_at_write_end.ensures.parts) c.as_slice.ensures.value in
     let back = place-back _ g.row.PRECISION (c.encoded_once.ensures.place _) c.args.later.now _ _ (held_by start)
     (held_by c.seek.new.self) _ start.words.buf.now c.seek.result c.may_be_held.ensures
     c.in-Ok-encode_iid_slice_reverse.ensures.ok c.in-Ok-into_compressed.ensures.ok there
@@ -22,7 +22,7 @@ returns-in-Ok-decode_iid_vec g c =
     let start = c.in-Ok-from_compressed.decoder in
     let kept = opened-keeps (λ s. s.buf) (λ s r t h. h.1) c.new_at_write_end.result start c.in-Ok-from_compressed.ensures.read in
     let there : start.words.buf.now ≡ c.in-Ok-into_compressed.words.items =
-    rw (kept, ap (λ p. p.0) c.new_at_write_end.ensures) c.as_slice.ensures.value in
+    rw (kept, ap (λ p. p.0) c.new_at_write_end.ensures.parts) c.as_slice.ensures.value in
     let back = place-back _ g.row.PRECISION (c.encoded_once.ensures.place _) c.args.later.now _ _ (held_by start)
     (held_by c.seek.new.self) _ start.words.buf.now c.seek.result c.may_be_held.ensures
     c.in-Ok-encode_iid_slice_reverse.ensures.ok c.in-Ok-into_compressed.ensures.ok there
