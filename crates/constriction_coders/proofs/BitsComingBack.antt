@@ -24,32 +24,34 @@ module _ {Symbol Latent PosteriorModel LikelihoodModel : Type 0}
     (likelihood_eq : Symbol → Symbol → Bool) (LikelihoodStands : Symbol → Symbol → Type 0)
     (prior_eq : Latent → Latent → Bool) (PriorStands : Latent → Latent → Type 0)
     (fit : FitTogether Posterior posterior_rows posterior_eq PosteriorStands Likelihood likelihood_rows likelihood_eq LikelihoodStands
-    prior_eq PriorStands) (prior : List (Row Latent)) (precision : ℕ) (fits : precision ≤ 32)
-    (prior_tile : RowsTile 32 precision prior) (posterior_tile : (m : PosteriorModel) → RowsTile 32 precision (posterior_rows m))
-    (likelihood_tile : (m : LikelihoodModel) → RowsTile 32 precision (likelihood_rows m))
+    prior_eq PriorStands) (prior : List (Row Latent)) (posterior_bits likelihood_bits prior_bits : ℕ)
+    (posterior_precision likelihood_precision prior_precision : ℕ) (fits : (m : PosteriorModel) → posterior_precision ≤ 32)
+    (prior_tile : RowsTile prior_bits prior_precision prior)
+    (posterior_tile : (m : PosteriorModel) → RowsTile posterior_bits posterior_precision (posterior_rows m))
+    (likelihood_tile : (m : LikelihoodModel) → RowsTile likelihood_bits likelihood_precision (likelihood_rows m))
     (prior_laws : IsEquivalence prior_eq) (posterior_laws : IsEquivalence posterior_eq) (laws : IsEquivalence likelihood_eq)
   where
     abbrev Back : Type 0
     Back = BitsComeBack Posterior posterior_rows posterior_eq PosteriorStands Likelihood likelihood_rows likelihood_eq LikelihoodStands
-        prior_eq PriorStands prior precision
+        prior_eq PriorStands prior posterior_precision likelihood_precision prior_precision
 
     abbrev Encodes : Symbol → Content → Content → Type 0
     Encodes = IsEncodedByLatent Posterior posterior_rows posterior_eq PosteriorStands Likelihood likelihood_rows likelihood_eq
-        LikelihoodStands prior_eq PriorStands prior precision
+        LikelihoodStands prior_eq PriorStands prior posterior_precision likelihood_precision prior_precision
 
     abbrev Decodes : Symbol → Content → Content → Type 0
     Decodes = IsDecodedByLatent Posterior posterior_rows posterior_eq PosteriorStands Likelihood likelihood_rows likelihood_eq
-        LikelihoodStands prior_eq PriorStands prior precision
+        LikelihoodStands prior_eq PriorStands prior posterior_precision likelihood_precision prior_precision
 
     module _ (symbol : Symbol) (full old : Content) (e : Encodes symbol full old) where
       abbrev entry : Latent → Option (ℕ × ℕ)
       entry = entry_of posterior_eq (posterior_rows e.posterior.0)
 
       -- the latent symbol comes back
-      latent-back : (latent : Latent) (coded : Content) → IsDecoded PriorStands prior precision latent full coded
+      latent-back : (latent : Latent) (coded : Content) → IsDecoded PriorStands prior prior_precision latent full coded
           → (prior_eq e.latent latent ≡ true) × (coded ≡ e.coded)
       latent-back latent coded d =
-          let paid = symbol-back PriorStands prior_eq (entry_of prior_eq prior) prior 32 precision prior_tile (λ s. refl)
+          let paid = symbol-back PriorStands prior_eq (entry_of prior_eq prior) prior prior_bits prior_precision prior_tile (λ s. refl)
           e.latent latent full e.coded coded e.prior d in
           (equal-to PriorStands prior_eq prior_laws fit.latent_clones e.latent latent paid.0, paid.1)
 
@@ -64,12 +66,12 @@ module _ {Symbol Latent PosteriorModel LikelihoodModel : Type 0}
       posterior-back answer chosen same chooses = sym (fit.posteriors symbol answer e.posterior.0 chosen same e.posterior.1 chooses)
 
       -- by which the latent symbol was encoded on what was left when it was decoded
-      drawn : (latent : Latent) → prior_eq e.latent latent ≡ true → IsEncoded (entry latent) precision old e.drawn
+      drawn : (latent : Latent) → prior_eq e.latent latent ≡ true → IsEncoded (entry latent) posterior_precision old e.drawn
       drawn latent same =
           let invertible = fit.invertible symbol e.posterior.0 e.posterior.1 in
-          let one = one-to-one posterior_eq entry 32 precision (posterior_rows e.posterior.0) (posterior_tile e.posterior.0) (λ s. refl)
-          posterior_laws invertible.distinct in
-          let own = is-encoded PosteriorStands posterior_eq entry _ precision one invertible.clones e.latent old e.drawn
+          let one = one-to-one posterior_eq entry posterior_bits posterior_precision (posterior_rows e.posterior.0)
+          (posterior_tile e.posterior.0) (λ s. refl) posterior_laws invertible.distinct in
+          let own = is-encoded PosteriorStands posterior_eq entry _ posterior_precision one invertible.clones e.latent old e.drawn
           e.posterior.2 in record {
             left = own.left;
             weight = own.weight;
@@ -84,16 +86,16 @@ module _ {Symbol Latent PosteriorModel LikelihoodModel : Type 0}
         paid : (prior_eq e.latent d.latent ≡ true) × (d.coded ≡ e.coded)
         paid = latent-back symbol full old e d.latent d.coded d.prior
 
-        decoded : IsDecoded LikelihoodStands (likelihood_rows e.likelihood.0) precision answer e.coded d.drawn
+        decoded : IsDecoded LikelihoodStands (likelihood_rows e.likelihood.0) likelihood_precision answer e.coded d.drawn
         decoded =
-            subst (λ (rs : List (Row Symbol)). IsDecoded LikelihoodStands rs precision answer e.coded d.drawn)
+            subst (λ (rs : List (Row Symbol)). IsDecoded LikelihoodStands rs likelihood_precision answer e.coded d.drawn)
             (likelihood-back symbol full old e d.latent d.likelihood.0 paid.0 d.likelihood.1)
-            (subst (λ (c : Content). IsDecoded LikelihoodStands (likelihood_rows d.likelihood.0) precision answer c d.drawn) paid.1
+            (subst (λ (c : Content). IsDecoded LikelihoodStands (likelihood_rows d.likelihood.0) likelihood_precision answer c d.drawn) paid.1
             d.likelihood.2)
 
         coded : StandsForEqual LikelihoodStands likelihood_eq symbol answer × (d.drawn ≡ e.drawn)
         coded = symbol-back LikelihoodStands likelihood_eq (entry_of likelihood_eq (likelihood_rows e.likelihood.0))
-            (likelihood_rows e.likelihood.0) 32 precision (likelihood_tile e.likelihood.0) (λ s. refl) symbol answer e.coded e.drawn
+            (likelihood_rows e.likelihood.0) likelihood_bits likelihood_precision (likelihood_tile e.likelihood.0) (λ s. refl) symbol answer e.coded e.drawn
             d.drawn e.likelihood.2 decoded
 
         same_posterior : posterior_rows d.posterior.0 ≡ posterior_rows e.posterior.0
@@ -101,14 +103,14 @@ module _ {Symbol Latent PosteriorModel LikelihoodModel : Type 0}
             posterior-back symbol full old e answer d.posterior.0
             (equal-to LikelihoodStands likelihood_eq laws fit.clones symbol answer coded.0) d.posterior.1
 
-        returned : IsEncoded (entry symbol full old e d.latent) precision new e.drawn
+        returned : IsEncoded (entry symbol full old e d.latent) posterior_precision new e.drawn
         returned =
-            subst (λ (rs : List (Row Latent)). IsEncoded (entry_of posterior_eq rs d.latent) precision new e.drawn) same_posterior
-            (subst (λ (c : Content). IsEncoded (entry_of posterior_eq (posterior_rows d.posterior.0) d.latent) precision new c) coded.1
+            subst (λ (rs : List (Row Latent)). IsEncoded (entry_of posterior_eq rs d.latent) posterior_precision new e.drawn) same_posterior
+            (subst (λ (c : Content). IsEncoded (entry_of posterior_eq (posterior_rows d.posterior.0) d.latent) posterior_precision new c) coded.1
             d.posterior.2)
 
         again : new ≡ old
-        again = encode-once (entry symbol full old e) precision fits d.latent new old e.drawn holds held returned
+        again = encode-once (entry symbol full old e) posterior_precision (fits e.posterior.0) d.latent new old e.drawn holds held returned
             (drawn symbol full old e d.latent paid.0)
 
     symbols-back-by-latent : (symbols answers : List Symbol) (full old new : Content)
@@ -126,17 +128,17 @@ module _ {Symbol Latent PosteriorModel LikelihoodModel : Type 0}
 
     -- the posterior that was chosen has an entry for the latent symbol
     latent-known : (symbol answer : Symbol) (latent : Latent) (full old coded : Content) (chosen : PosteriorModel) → Encodes symbol full old
-        → IsDecoded PriorStands prior precision latent full coded
-        → IsChosenByState Likelihood likelihood_rows precision LikelihoodStands latent answer coded → Posterior answer chosen
+        → IsDecoded PriorStands prior prior_precision latent full coded
+        → IsChosenByState Likelihood likelihood_rows likelihood_precision LikelihoodStands latent answer coded → Posterior answer chosen
         → entry_of posterior_eq (posterior_rows chosen) latent ≡ None → ⊥
     latent-known symbol answer latent full old coded chosen e d given chooses none =
         let paid = latent-back symbol full old e latent coded d in
-        let quantile : coded.state % 2 ^ precision ≡ e.coded.state % 2 ^ precision =
-        ap (λ (c : Content). c.state % 2 ^ precision) paid.1 in
-        let row : IsRowOf (likelihood_rows e.likelihood.0) (e.coded.state % 2 ^ precision) given.2 =
+        let quantile : coded.state % 2 ^ likelihood_precision ≡ e.coded.state % 2 ^ likelihood_precision =
+        ap (λ (c : Content). c.state % 2 ^ likelihood_precision) paid.1 in
+        let row : IsRowOf (likelihood_rows e.likelihood.0) (e.coded.state % 2 ^ likelihood_precision) given.2 =
         rw (likelihood-back symbol full old e latent given.0 paid.0 given.1, quantile) at given.3 in
         let own = e.likelihood.2 in
-        let equal = entry-back 32 precision likelihood_eq (likelihood_rows e.likelihood.0) symbol own.left own.weight _ given.2
+        let equal = entry-back likelihood_bits likelihood_precision likelihood_eq (likelihood_rows e.likelihood.0) symbol own.left own.weight _ given.2
         (likelihood_tile e.likelihood.0) own.known own.top.from own.top.to row in
         let same = equal-to LikelihoodStands likelihood_eq laws fit.clones symbol answer (given.2.symbol, equal.0, given.4) in
         let known = (drawn symbol full old e latent paid.0).known in

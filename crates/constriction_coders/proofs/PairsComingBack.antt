@@ -23,7 +23,7 @@ turns-append Step [] ys first mid last e f = subst (λ c. InTurn Step ys c last)
 turns-append Step (x ∷ xs) ys first mid last (next, step, others) f = (next, step, turns-append Step xs ys next mid last others f)
 
 module _ {Symbol Model Other : Type 0} (eq : Symbol → Symbol → Bool) (rows : Model → List (Row Symbol)) (Stands : Symbol → Symbol → Type 0)
-    (other_rows : Other → List (Row Symbol)) (precision : ℕ) (tile : (m : Other) → RowsTile 32 precision (other_rows m)) where
+    (other_rows : Other → List (Row Symbol)) (bits precision : ℕ) (tile : (m : Other) → RowsTile bits precision (other_rows m)) where
   stack-back : (pairs : List (Symbol × Model)) (others : List (Symbol × Other)) (full rest under : Content)
       → InTurn (λ s. IsEncoded (entry_by eq rows s) precision) pairs full rest
       → InTurn (λ other. IsDecoded Stands (other_rows other.1) precision other.0) others full under
@@ -32,7 +32,7 @@ module _ {Symbol Model Other : Type 0} (eq : Symbol → Symbol → Bool) (rows :
   stack-back [] (o ∷ os) full rest under e d alike = absurd alike
   stack-back (p ∷ ps) [] full rest under e d alike = absurd alike
   stack-back (p ∷ ps) (o ∷ os) full rest under (mid, e, es) (left, d, ds) alike =
-      let first = symbol-back Stands eq (entry_of eq (rows p.1)) (other_rows o.1) 32 precision (tile o.1) alike.0 p.0 o.0 full mid left
+      let first = symbol-back Stands eq (entry_of eq (rows p.1)) (other_rows o.1) bits precision (tile o.1) alike.0 p.0 o.0 full mid left
       e d in
       let on = subst (λ (c : Content). InTurn (λ other. IsDecoded Stands (other_rows other.1) precision other.0) os c under) first.1 ds in
       let others = stack-back ps os mid rest under es on alike.1 in
@@ -63,7 +63,7 @@ module _ {Symbol Model Other : Type 0} (eq : Symbol → Symbol → Bool) (rows :
     follow (p ∷ ps) [] first mid words start now fit e lies here d alike = absurd alike
     follow (p ∷ ps) (o ∷ os) first mid words start now fit (next, e, es) lies here (later, d, ds) alike =
         let there = lies-run (entry_by eq rows) precision words fit ps next mid es (lies (omega arith)) in
-        let back = range-symbol-back Stands eq (entry_of eq (rows p.1)) (other_rows o.1) gives tells 32 precision (tile o.1) alike.0 law p.0
+        let back = range-symbol-back Stands eq (entry_of eq (rows p.1)) (other_rows o.1) gives tells bits precision (tile o.1) alike.0 law p.0
         o.0 first next words start later fit
         e there here d in
         let rest = follow ps os next mid words later now fit es (λ _. lies (omega arith)) back.1 ds alike.1 in

@@ -4,7 +4,7 @@ use Rattle.std.proofs.lemmas.Bool.{cases_lt}
 use Rattle.std.proofs.lemmas.Nat.{mod_below, div-add-mod'}
 use Rattle.constriction_model.specs.Rows.{Row, IsRowOf}
 use Rattle.constriction_coders.specs.States.{put, taken}
-use Rattle.constriction_coders.specs.Steps.{Content, content, IsWhole, Refills, IsOnTop, IsEncoded, IsDecoded, NeedsWord}
+use Rattle.constriction_coders.specs.Steps.{Content, content, IsWhole, Refills, IsOnTop, IsDecoded, NeedsWord}
 use Rattle.constriction_coders.proofs.States.{put_quantile, taken_put, taken_some}
 
 -- a state that lost a word takes it back
@@ -23,12 +23,12 @@ one-entry entry left weight other_left other_weight one other =
     (ap (λ (x : ℕ × ℕ). x.0) same, ap (λ (x : ℕ × ℕ). x.1) same)
 
 -- the row that was looked up is the row that needs a word
-pub needs-row : {Symbol : Type 0} (precision left weight other : ℕ) (c : Content) (quantile : ℕ) (rows : List (Row Symbol)) (own : Symbol)
-    → quantile ≡ c.state % 2 ^ precision → IsRowOf rows quantile (record { symbol = own; left = left; weight = other }) → other ≡ weight
+pub needs-row : {Symbol : Type 0} (precision left weight : ℕ) (c : Content) (quantile : ℕ) (rows : List (Row Symbol)) (own : Symbol)
+    → quantile ≡ c.state % 2 ^ precision → IsRowOf rows quantile (record { symbol = own; left = left; weight = weight })
     → NeedsWord precision left weight c
     → (row : Row Symbol) × IsRowOf rows (c.state % 2 ^ precision) row × NeedsWord precision row.left row.weight c
-needs-row precision left weight other c quantile rows own quantile_is found same needs =
-    (record { symbol = own; left = left; weight = weight }, rw (quantile_is, same) at found, needs)
+needs-row precision left weight c quantile rows own quantile_is found needs =
+    (record { symbol = own; left = left; weight = weight }, rw quantile_is at found, needs)
 
 -- a symbol that is put on a state is on top
 pub put-on-top : (precision left weight state next : ℕ) (words : List ℕ) (other : Content) → 0 < weight → left + weight ≤ 2 ^ precision
@@ -46,22 +46,15 @@ put-on-top precision left weight state next words other some within is refills =
       under = subst (λ n. Refills n words other) (sym under_is) refills;
     }
 
--- if the entry of a symbol is on top, the symbol was encoded
-pub encoded : {Symbol : Type 0} (precision left weight other : ℕ) (entry : Symbol → Option (ℕ × ℕ)) (symbol : Symbol) (full rest : Content)
-    → entry symbol ≡ Some (left, other) → other ≡ weight → IsOnTop precision left weight full rest
-    → IsEncoded (entry symbol) precision full rest
-encoded precision left weight other entry symbol full rest known same top =
-    record { left = left; weight = weight; known = rw same at known; top = top }
-
 -- if the row of the quantile is on top, its symbol was decoded
-pub decoded : {Symbol : Type 0} (precision left weight other : ℕ) (Stands : Symbol → Symbol → Type 0) (rows : List (Row Symbol))
+pub decoded : {Symbol : Type 0} (precision left weight : ℕ) (Stands : Symbol → Symbol → Type 0) (rows : List (Row Symbol))
     (own answer : Symbol) (quantile : ℕ) (full rest : Content) → quantile ≡ full.state % 2 ^ precision
-    → IsRowOf rows quantile (record { symbol = own; left = left; weight = other }) → other ≡ weight → Stands own answer
+    → IsRowOf rows quantile (record { symbol = own; left = left; weight = weight }) → Stands own answer
     → IsOnTop precision left weight full rest → IsDecoded Stands rows precision answer full rest
-decoded precision left weight other Stands rows own answer quantile full rest quantile_is found same stands top =
+decoded precision left weight Stands rows own answer quantile full rest quantile_is found stands top =
     record {
       row = record { symbol = own; left = left; weight = weight };
-      found = rw (quantile_is, same) at found;
+      found = rw quantile_is at found;
       stands = stands;
       top = top;
     }

@@ -55,18 +55,21 @@ module _ {Symbol Latent PosteriorModel LikelihoodModel : Type 0}
     pub latent_clones : ClonesAreEqual prior_eq PriorStands
     pub clones : ClonesAreEqual likelihood_eq LikelihoodStands
 
-  module _ (prior : List (Row Latent)) (precision : ℕ) where
+  -- a precision for each model
+  module _ (prior : List (Row Latent)) (posterior_precision likelihood_precision prior_precision : ℕ) where
     -- the symbol is encoded, and the latent one decoded before and encoded after it
     abbrev pub IsEncodedByLatent : Symbol → (full rest : Content) → Type 0
     IsEncodedByLatent =
-        IsCodedByLatent (IsDecodedByChosen Posterior posterior_rows precision PosteriorStands)
-        (IsEncodedByChosen Likelihood likelihood_rows precision likelihood_eq) (λ s. IsEncoded (entry_of prior_eq prior s) precision)
+        IsCodedByLatent (IsDecodedByChosen Posterior posterior_rows posterior_precision PosteriorStands)
+        (IsEncodedByChosen Likelihood likelihood_rows likelihood_precision likelihood_eq)
+        (λ s. IsEncoded (entry_of prior_eq prior s) prior_precision)
 
     -- the symbol is decoded, and the latent one decoded before and encoded after it
     abbrev pub IsDecodedByLatent : Symbol → (full rest : Content) → Type 0
     IsDecodedByLatent =
-        IsCodedByLatent (IsEncodedByChosen Posterior posterior_rows precision posterior_eq)
-        (IsDecodedByChosen Likelihood likelihood_rows precision LikelihoodStands) (IsDecoded PriorStands prior precision)
+        IsCodedByLatent (IsEncodedByChosen Posterior posterior_rows posterior_precision posterior_eq)
+        (IsDecodedByChosen Likelihood likelihood_rows likelihood_precision LikelihoodStands)
+        (IsDecoded PriorStands prior prior_precision)
 
     -- what follows for symbols that were encoded so
     pub record BitsComeBack : Type 0 where
@@ -80,6 +83,6 @@ module _ {Symbol Latent PosteriorModel LikelihoodModel : Type 0}
           → length answers ≡ length symbols → AllZip (StandsForEqual LikelihoodStands likelihood_eq) symbols answers × (new ≡ old)
       -- the posterior of what is decoded after a symbol was encoded has an entry for the latent symbol
       pub known : (symbol answer : Symbol) (latent : Latent) (full old coded : Content) (chosen : PosteriorModel)
-          → IsEncodedByLatent symbol full old → IsDecoded PriorStands prior precision latent full coded
-          → IsChosenByState Likelihood likelihood_rows precision LikelihoodStands latent answer coded → Posterior answer chosen
+          → IsEncodedByLatent symbol full old → IsDecoded PriorStands prior prior_precision latent full coded
+          → IsChosenByState Likelihood likelihood_rows likelihood_precision LikelihoodStands latent answer coded → Posterior answer chosen
           → entry_of posterior_eq (posterior_rows chosen) latent ≢ None

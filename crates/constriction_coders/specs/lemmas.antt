@@ -1,3 +1,4 @@
 pub mod Bytes
 pub mod EncodedWords
+pub mod ModelWords
 pub mod Stack

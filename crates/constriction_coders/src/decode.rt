@@ -12,6 +12,7 @@ ghost use Rattle.constriction_model.specs.Rows.{Row};
 ghost use Rattle.constriction_words.specs.declared.CoderError.{CoderError};
 
 use crate::code::Code;
+use crate::model_word::ModelWord;
 use constriction_model::DecoderModel;
 use constriction_words::CoderError;
 use std::alloc::{AllocError, Global};
@@ -44,7 +45,7 @@ pub trait Decode<const PRECISION: usize>: Code {
         model: &D,
     ) -> Result<D::Symbol, CoderError<Self::FrontendError, Self::BackendError>>
     where
-        D: DecoderModel<PRECISION, Probability = u32>,
+        D: DecoderModel<PRECISION, Probability: ModelWord>,
         D::Symbol: Drop,
         requires { can_decode self.old }
         ensures goes_on { can_decode self.new }
@@ -66,7 +67,7 @@ pub trait Decode<const PRECISION: usize>: Code {
     ) -> Result<Vec<D::Symbol>, CoderError<Self::FrontendError, Self::BackendError>>
     where
         Self: Sized,
-        D: DecoderModel<PRECISION, Probability = u32>,
+        D: DecoderModel<PRECISION, Probability: ModelWord>,
         D::Symbol: Drop,
         requires { can_decode self.old }
         ensures goes_on { can_decode self.new }
@@ -101,7 +102,7 @@ pub fn decode_symbols<'c, C, D, I, const PRECISION: usize>(
 ) -> DecodeSymbols<'c, C, I::IntoIter, PRECISION>
 where
     C: Decode<PRECISION>,
-    D: DecoderModel<PRECISION, Probability = u32> + Drop,
+    D: DecoderModel<PRECISION, Probability: ModelWord> + Drop,
     D::Symbol: Drop,
     I: IntoIterator<Item = D>,
     ensures same_reference { result.coder.ghost_name ≡ coder.entry.ghost_name }
@@ -129,7 +130,7 @@ pub struct DecodeSymbols<'c, C, Models, const PRECISION: usize> {
 impl<'c, C: Decode<PRECISION>, D, Models, const PRECISION: usize> Iterator
     for DecodeSymbols<'c, C, Models, PRECISION>
 where
-    D: DecoderModel<PRECISION, Probability = u32> + Drop,
+    D: DecoderModel<PRECISION, Probability: ModelWord> + Drop,
     D::Symbol: Drop,
     Models: Iterator<Item = D>,
 {
@@ -162,7 +163,7 @@ where
 impl<'c, C: Decode<PRECISION>, D, Models, const PRECISION: usize> FusedIterator
     for DecodeSymbols<'c, C, Models, PRECISION>
 where
-    D: DecoderModel<PRECISION, Probability = u32> + Drop,
+    D: DecoderModel<PRECISION, Probability: ModelWord> + Drop,
     D::Symbol: Drop,
     Models: Iterator<Item = D>,
 {}
@@ -175,7 +176,7 @@ pub fn decode_iid_symbols<'c, 'm, C, D, const PRECISION: usize>(
 ) -> DecodeIidSymbols<'c, 'm, C, D, PRECISION>
 where
     C: Decode<PRECISION>,
-    D: DecoderModel<PRECISION, Probability = u32>,
+    D: DecoderModel<PRECISION, Probability: ModelWord>,
     D::Symbol: Drop,
     ensures same_reference { result.coder.ghost_name ≡ coder.entry.ghost_name }
     ensures coder { result.coder.now ≡ coder.old }
@@ -198,7 +199,7 @@ pub struct DecodeIidSymbols<
     'c,
     'm,
     C: Decode<PRECISION>,
-    D: DecoderModel<PRECISION, Probability = u32>,
+    D: DecoderModel<PRECISION, Probability: ModelWord>,
     const PRECISION: usize,
 > {
     pub(crate) coder: &'c mut C,
@@ -210,7 +211,7 @@ impl<
     'c,
     'm,
     C: Decode<PRECISION>,
-    D: DecoderModel<PRECISION, Probability = u32>,
+    D: DecoderModel<PRECISION, Probability: ModelWord>,
     const PRECISION: usize,
 > Iterator for DecodeIidSymbols<'c, 'm, C, D, PRECISION>
 where
@@ -247,7 +248,7 @@ impl<
     'c,
     'm,
     C: Decode<PRECISION>,
-    D: DecoderModel<PRECISION, Probability = u32>,
+    D: DecoderModel<PRECISION, Probability: ModelWord>,
     const PRECISION: usize,
 > ExactSizeIterator for DecodeIidSymbols<'c, 'm, C, D, PRECISION>
 where
@@ -263,7 +264,7 @@ impl<
     'c,
     'm,
     C: Decode<PRECISION>,
-    D: DecoderModel<PRECISION, Probability = u32>,
+    D: DecoderModel<PRECISION, Probability: ModelWord>,
     const PRECISION: usize,
 > FusedIterator for DecodeIidSymbols<'c, 'm, C, D, PRECISION>
 where

@@ -10,6 +10,7 @@ ghost use Rattle.constriction_model.specs.Rows.{entry_of};
 ghost use Rattle.constriction_words.specs.declared.CoderError.{CoderError};
 
 use crate::code::Code;
+use crate::model_word::ModelWord;
 use crate::with_model::WithModel;
 use constriction_model::EncoderModel;
 use constriction_words::CoderError;
@@ -37,7 +38,7 @@ pub trait Encode<const PRECISION: usize>: Code {
         model: &E,
     ) -> Result<(), CoderError<Self::FrontendError, Self::BackendError>>
     where
-        E: EncoderModel<PRECISION, Probability = u32>,
+        E: EncoderModel<PRECISION, Probability: ModelWord>,
         ensures ok { OnOk result (is_encoded (entry_of E.symbol_eq (E.rows model.now) symbol.now)
             (Self.held self.old) (Self.held self.new)) }
         ensures impossible { (fault : _) → result ≡ Err (CoderError.Frontend fault)
@@ -54,7 +55,7 @@ pub trait Encode<const PRECISION: usize>: Code {
     ) -> Result<(), CoderError<Self::FrontendError, Self::BackendError>>
     where
         Self: Sized,
-        E: EncoderModel<PRECISION, Probability = u32> + Drop,
+        E: EncoderModel<PRECISION, Probability: ModelWord> + Drop,
         E::Symbol: Drop,
         I: IntoIterator<Item = (E::Symbol, E)>,
         requires { IsFiniteIterable I.into_iter_gives I.IntoIter.can_next I.IntoIter.remaining
@@ -85,7 +86,7 @@ pub trait Encode<const PRECISION: usize>: Code {
     ) -> Result<(), CoderError<Self::FrontendError, Self::BackendError>>
     where
         Self: Sized,
-        E: EncoderModel<PRECISION, Probability = u32>,
+        E: EncoderModel<PRECISION, Probability: ModelWord>,
         E::Symbol: Drop,
         I: IntoIterator<Item = E::Symbol>,
         requires { IsFiniteIterable I.into_iter_gives I.IntoIter.can_next I.IntoIter.remaining
@@ -110,7 +111,7 @@ pub trait Encode<const PRECISION: usize>: Code {
     ) -> Result<(), CoderError<Self::FrontendError, Self::BackendError>>
     where
         Self: Sized,
-        E: EncoderModel<PRECISION, Probability = u32>,
+        E: EncoderModel<PRECISION, Probability: ModelWord>,
         ensures ok { OnOk result
             (InTurn (λ symbol. is_encoded (entry_of E.symbol_eq (E.rows model.now) symbol))
             symbols.now (Self.held self.old) (Self.held self.new)) }

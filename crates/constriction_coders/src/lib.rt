@@ -12,8 +12,10 @@ mod code;
 pub mod counts;
 mod decode;
 mod encode;
+mod entry;
 mod into_decoder;
 pub mod laws;
+mod model_word;
 pub mod queue;
 pub mod stack;
 mod with_model;
@@ -24,3 +26,4 @@ pub use self::decode::{
 };
 pub use self::encode::Encode;
 pub use self::into_decoder::IntoDecoder;
+pub use self::model_word::ModelWord;

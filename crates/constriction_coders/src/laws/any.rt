@@ -9,6 +9,7 @@ ghost use Rattle.constriction_model.specs.Rows.{entry_of};
 
 use crate::into_decoder::IntoDecoder;
 use crate::laws::{encoded_in_turn, range_symbols_come_back, symbols_come_back};
+use crate::model_word::ModelWord;
 use crate::queue::RangeEncoder;
 use crate::stack::AnsCoder;
 use constriction_backends::{Cursor, WordStack};
@@ -25,8 +26,8 @@ pub trait ComesBack<const PRECISION: usize>: IntoDecoder<PRECISION> {
     /// What is encoded by one model and decoded by the other comes back.
     fn come_back<D, E>(decoder: &D, encoder: &E)
     where
-        D: DecoderModel<PRECISION, Probability = u32>,
-        E: EncoderModel<PRECISION, Symbol = D::Symbol, Probability = u32>,
+        D: DecoderModel<PRECISION, Probability: ModelWord>,
+        E: EncoderModel<PRECISION, Symbol = D::Symbol, Probability: ModelWord>,
         requires { SameEntries E.symbol_eq (E.rows encoder.now) (D.rows decoder.now) }
         ensures { (symbols answers : List D.Symbol) (first full : Self) (opened last : Self.Decoder)
             → is_begun first
@@ -45,8 +46,8 @@ impl<Backend: WordStack<u32>, const PRECISION: usize> ComesBack<PRECISION> for A
 
     fn come_back<D, E>(decoder: &D, encoder: &E)
     where
-        D: DecoderModel<PRECISION, Probability = u32>,
-        E: EncoderModel<PRECISION, Symbol = D::Symbol, Probability = u32>,
+        D: DecoderModel<PRECISION, Probability: ModelWord>,
+        E: EncoderModel<PRECISION, Symbol = D::Symbol, Probability: ModelWord>,
     {
         symbols_come_back::<D, E, PRECISION>(decoder, encoder);
         encoded_in_turn::<E::Symbol, PRECISION>();
@@ -60,8 +61,8 @@ impl<const PRECISION: usize> ComesBack<PRECISION> for RangeEncoder {
 
     fn come_back<D, E>(decoder: &D, encoder: &E)
     where
-        D: DecoderModel<PRECISION, Probability = u32>,
-        E: EncoderModel<PRECISION, Symbol = D::Symbol, Probability = u32>,
+        D: DecoderModel<PRECISION, Probability: ModelWord>,
+        E: EncoderModel<PRECISION, Symbol = D::Symbol, Probability: ModelWord>,
     {
         range_symbols_come_back::<D, E, Cursor<u32, Vec<u32>>, PRECISION>(decoder, encoder);
     }

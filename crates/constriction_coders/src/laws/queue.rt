@@ -16,6 +16,7 @@ ghost use Rattle.constriction_model.specs.Rows.{Row, entry_of};
 use crate::decode::Decode;
 use crate::encode::Encode;
 use crate::laws::MessageError;
+use crate::model_word::ModelWord;
 use crate::queue::{DecoderFrontendError, RangeDecoder, RangeEncoder};
 use constriction_backends::{Cursor, ReadWords};
 use constriction_model::{DecoderModel, EncoderModel};
@@ -27,8 +28,8 @@ use std::convert::Infallible;
 /// symbols before and after it have, and symbols from any span of a message on.
 pub fn range_symbols_come_back<D, E, Source, const PRECISION: usize>(decoder: &D, encoder: &E)
 where
-    D: DecoderModel<PRECISION, Probability = u32>,
-    E: EncoderModel<PRECISION, Symbol = D::Symbol, Probability = u32>,
+    D: DecoderModel<PRECISION, Probability: ModelWord>,
+    E: EncoderModel<PRECISION, Symbol = D::Symbol, Probability: ModelWord>,
     Source: ReadWords<u32, Queue>,
     requires { SameEntries E.symbol_eq (E.rows encoder.now) (D.rows decoder.now) }
     ensures { RangeSymbolsComeBack D.stands_for E.symbol_eq
@@ -40,7 +41,7 @@ where
 /// from state to state: each symbol by a model of its own, which may depend on those before it.
 pub fn range_places_come_back<State, D, Source, const PRECISION: usize>()
 where
-    D: DecoderModel<PRECISION, Probability = u32>,
+    D: DecoderModel<PRECISION, Probability: ModelWord>,
     Source: ReadWords<u32, Queue>,
     requires { 0 < PRECISION }
     ensures { (eq : D.Symbol → D.Symbol → Bool) (entry : State → D.Symbol → Option (ℕ × ℕ))
@@ -56,8 +57,8 @@ where
 /// from any span of a message on.
 pub fn range_pairs_come_back<D, E, Source, const PRECISION: usize>()
 where
-    D: DecoderModel<PRECISION, Probability = u32>,
-    E: EncoderModel<PRECISION, Symbol = D::Symbol, Probability = u32>,
+    D: DecoderModel<PRECISION, Probability: ModelWord>,
+    E: EncoderModel<PRECISION, Symbol = D::Symbol, Probability: ModelWord>,
     Source: ReadWords<u32, Queue>,
     ensures { RangePairsComeBack E.symbol_eq E.rows D.stands_for D.rows Source.read_gives
         Source.tells_upcoming PRECISION }
@@ -95,7 +96,7 @@ pub fn message_of<E, const PRECISION: usize>(
     symbols: &[E::Symbol],
 ) -> Result<Vec<u32>, CoderError<DefaultEncoderFrontendError, AllocError>>
 where
-    E: EncoderModel<PRECISION, Probability = u32>,
+    E: EncoderModel<PRECISION, Probability: ModelWord>,
     ensures ok { IfOk result (λ words.
         IsMessageOf (entry_of E.symbol_eq (E.rows encoder.now)) PRECISION symbols.now words.items) }
     ensures impossible { result ≡ Err
@@ -122,9 +123,9 @@ pub fn message_from<D, E, Source, const PRECISION: usize>(
     encoder: &E,
 ) -> Result<Vec<D::Symbol>, CoderError<DecoderFrontendError, Source::ReadError>>
 where
-    D: DecoderModel<PRECISION, Probability = u32>,
+    D: DecoderModel<PRECISION, Probability: ModelWord>,
     D::Symbol: Drop,
-    E: EncoderModel<PRECISION, Symbol = D::Symbol, Probability = u32>,
+    E: EncoderModel<PRECISION, Symbol = D::Symbol, Probability: ModelWord>,
     Source: ReadWords<u32, Queue> + Drop,
     requires alike { SameEntries E.symbol_eq (E.rows encoder.now) (D.rows decoder.now) }
     requires can_read { Source.can_read source }
@@ -163,9 +164,9 @@ pub fn message_comes_back<D, E, const PRECISION: usize>(
     >,
 >
 where
-    D: DecoderModel<PRECISION, Probability = u32>,
+    D: DecoderModel<PRECISION, Probability: ModelWord>,
     D::Symbol: Drop,
-    E: EncoderModel<PRECISION, Symbol = D::Symbol, Probability = u32>,
+    E: EncoderModel<PRECISION, Symbol = D::Symbol, Probability: ModelWord>,
     requires { SameEntries E.symbol_eq (E.rows encoder.now) (D.rows decoder.now) }
     ensures back { IfOk result (λ answers.
         AllZip (StandsForEqual D.stands_for E.symbol_eq) symbols.now answers.items) }

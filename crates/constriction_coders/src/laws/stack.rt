@@ -22,6 +22,7 @@ use crate::code::Code;
 use crate::decode::Decode;
 use crate::encode::Encode;
 use crate::laws::MessageError;
+use crate::model_word::ModelWord;
 use crate::stack::AnsCoder;
 use constriction_backends::{ReadWriteError, StackSource, WordStack};
 use constriction_model::{DecoderModel, EncoderModel};
@@ -31,8 +32,8 @@ use std::alloc::{AllocError, Global};
 /// What is encoded by one model and decoded by the other comes back, whoever encoded it.
 pub fn symbols_come_back<D, E, const PRECISION: usize>(decoder: &D, encoder: &E)
 where
-    D: DecoderModel<PRECISION, Probability = u32>,
-    E: EncoderModel<PRECISION, Symbol = D::Symbol, Probability = u32>,
+    D: DecoderModel<PRECISION, Probability: ModelWord>,
+    E: EncoderModel<PRECISION, Symbol = D::Symbol, Probability: ModelWord>,
     requires { SameEntries E.symbol_eq (E.rows encoder.now) (D.rows decoder.now) }
     ensures { SymbolsComeBack (entry_of E.symbol_eq (E.rows encoder.now)) PRECISION D.stands_for
         (D.rows decoder.now) E.symbol_eq }
@@ -42,7 +43,7 @@ where
 /// from state to state.
 pub fn places_come_back<State, D, const PRECISION: usize>()
 where
-    D: DecoderModel<PRECISION, Probability = u32>,
+    D: DecoderModel<PRECISION, Probability: ModelWord>,
     ensures { (eq : D.Symbol → D.Symbol → Bool) (entry : State → D.Symbol → Option (ℕ × ℕ))
         (rows : State → List (Row D.Symbol)) (next : State → D.Symbol → State) (first : State)
         → ((state : State) (s t : D.Symbol) → StandsForEqual D.stands_for eq s t → next state t
@@ -54,8 +55,8 @@ where
 /// Symbols that are encoded by models, a model each, come back by models with the same entries.
 pub fn pairs_come_back<D, E, const PRECISION: usize>()
 where
-    D: DecoderModel<PRECISION, Probability = u32>,
-    E: EncoderModel<PRECISION, Symbol = D::Symbol, Probability = u32>,
+    D: DecoderModel<PRECISION, Probability: ModelWord>,
+    E: EncoderModel<PRECISION, Symbol = D::Symbol, Probability: ModelWord>,
     ensures { PairsComeBack E.symbol_eq E.rows D.stands_for D.rows PRECISION }
 {}
 
@@ -104,8 +105,8 @@ pub fn binary_comes_back()
 /// symbols.
 pub fn decoded_goes_back<D, E, const PRECISION: usize>(decoder: &D, encoder: &E)
 where
-    D: DecoderModel<PRECISION, Probability = u32>,
-    E: EncoderModel<PRECISION, Symbol = D::Symbol, Probability = u32>,
+    D: DecoderModel<PRECISION, Probability: ModelWord>,
+    E: EncoderModel<PRECISION, Symbol = D::Symbol, Probability: ModelWord>,
     requires alike { SameEntries E.symbol_eq (E.rows encoder.now) (D.rows decoder.now) }
     requires invertible { IsInvertible E.symbol_eq D.stands_for (D.rows decoder.now) }
     ensures { DecodedGoesBack (entry_of E.symbol_eq (E.rows encoder.now)) PRECISION D.stands_for
@@ -130,9 +131,9 @@ pub fn there_and_back<Backend, D, E, const PRECISION: usize>(
 >
 where
     Backend: WordStack<u32>,
-    D: DecoderModel<PRECISION, Probability = u32>,
+    D: DecoderModel<PRECISION, Probability: ModelWord>,
     D::Symbol: Drop,
-    E: EncoderModel<PRECISION, Symbol = D::Symbol, Probability = u32>,
+    E: EncoderModel<PRECISION, Symbol = D::Symbol, Probability: ModelWord>,
     requires { SameEntries E.symbol_eq (E.rows encoder.now) (D.rows decoder.now) }
     ensures back { IfOk result (λ answers.
         AllZip (StandsForEqual D.stands_for E.symbol_eq) (reverse symbols.now) answers.items) }
@@ -182,9 +183,9 @@ pub fn back_and_there<Backend, D, E, const PRECISION: usize>(
 >
 where
     Backend: WordStack<u32>,
-    D: DecoderModel<PRECISION, Probability = u32>,
+    D: DecoderModel<PRECISION, Probability: ModelWord>,
     D::Symbol: Drop,
-    E: EncoderModel<PRECISION, Symbol = D::Symbol, Probability = u32>,
+    E: EncoderModel<PRECISION, Symbol = D::Symbol, Probability: ModelWord>,
     requires alike { SameEntries E.symbol_eq (E.rows encoder.now) (D.rows decoder.now) }
     requires invertible { IsInvertible E.symbol_eq D.stands_for (D.rows decoder.now) }
     ensures symbol { IfOk result (λ symbol. (rest : Content)
@@ -219,15 +220,17 @@ where
 pub fn bits_come_back<
     Symbol,
     Latent,
-    PosteriorModel: EncoderModel<PRECISION, Probability = u32>
-        + DecoderModel<PRECISION, Symbol = Latent, Probability = u32>,
-    LikelihoodModel: EncoderModel<PRECISION, Probability = u32>
-        + DecoderModel<PRECISION, Symbol = Symbol, Probability = u32>,
-    Prior: EncoderModel<PRECISION, Probability = u32>
-        + DecoderModel<PRECISION, Symbol = Latent, Probability = u32>,
+    PosteriorModel: EncoderModel<POSTERIOR_PRECISION, Probability: ModelWord>
+        + DecoderModel<POSTERIOR_PRECISION, Symbol = Latent>,
+    LikelihoodModel: EncoderModel<LIKELIHOOD_PRECISION, Probability: ModelWord>
+        + DecoderModel<LIKELIHOOD_PRECISION, Symbol = Symbol>,
+    Prior: EncoderModel<PRIOR_PRECISION, Probability: ModelWord>
+        + DecoderModel<PRIOR_PRECISION, Symbol = Latent>,
     Posterior: Fn(&Symbol) -> PosteriorModel,
     Likelihood: Fn(&Latent) -> LikelihoodModel,
-    const PRECISION: usize,
+    const POSTERIOR_PRECISION: usize,
+    const LIKELIHOOD_PRECISION: usize,
+    const PRIOR_PRECISION: usize,
 >(posterior: &Posterior, likelihood: &Likelihood, prior: &Prior)
     requires { FitTogether (FnReturnsAt Posterior.Fn posterior.now) PosteriorModel.rows
         PosteriorModel.symbol_eq PosteriorModel.stands_for
@@ -237,7 +240,7 @@ pub fn bits_come_back<
         PosteriorModel.symbol_eq PosteriorModel.stands_for
         (FnReturnsAt Likelihood.Fn likelihood.now) LikelihoodModel.rows LikelihoodModel.symbol_eq
         LikelihoodModel.stands_for Prior.symbol_eq Prior.stands_for (Prior.rows prior.now)
-        PRECISION }
+        POSTERIOR_PRECISION LIKELIHOOD_PRECISION PRIOR_PRECISION }
 {}
 
 /// Turns a coder into words, and these into a coder again.

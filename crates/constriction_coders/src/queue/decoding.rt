@@ -5,6 +5,8 @@ ghost use Rattle.constriction_coders.specs.RangeDecoder.{held_by};
 
 use crate::code::Code;
 use crate::decode::Decode;
+use crate::entry::symbol_and_entry;
+use crate::model_word::ModelWord;
 use crate::queue::interval::{part_of, quantile_at, unit_of};
 use crate::queue::range_decoder::{DecoderFrontendError, RangeDecoder, next_or_zero};
 use constriction_backends::ReadWords;
@@ -65,22 +67,22 @@ impl<Source: ReadWords<u32, Queue>, const PRECISION: usize> Decode<PRECISION>
         model: &D,
     ) -> Result<D::Symbol, CoderError<DecoderFrontendError, Source::ReadError>>
     where
-        D: DecoderModel<PRECISION, Probability = u32>,
+        D: DecoderModel<PRECISION, Probability: ModelWord>,
         D::Symbol: Drop,
     {
         let unit = unit_of::<PRECISION>(self.range);
         let Some(quantile) = quantile_at::<PRECISION>(unit, self.offset) else {
             return Err(CoderError::Frontend(DecoderFrontendError::InvalidData));
         };
-        let Ok((symbol, left, weight)) = model.quantile_function(quantile) else {
+        let Ok((symbol, entry)) = symbol_and_entry::<D, PRECISION>(model, quantile) else {
             return Err(CoderError::Frontend(DecoderFrontendError::OutOfMemory));
         };
         let (range, offset) = part_of::<PRECISION>(
             self.range,
             self.offset,
             unit,
-            left,
-            weight.get(),
+            entry.0,
+            entry.1,
             quantile,
         );
         if range >= 1 << 32 {

@@ -9,6 +9,8 @@ ghost use Rattle.constriction_model.specs.Rows.{entry_of};
 
 use crate::code::Code;
 use crate::encode::Encode;
+use crate::entry::entry_of_symbol;
+use crate::model_word::ModelWord;
 use crate::queue::carrying::{ends_in_zero, raised, sealed, widened};
 use crate::queue::encoded_words::EncodedWords;
 use crate::queue::interval::unit_of;
@@ -157,14 +159,14 @@ impl<const PRECISION: usize> Encode<PRECISION> for RangeEncoder {
         model: &E,
     ) -> Result<(), CoderError<DefaultEncoderFrontendError, AllocError>>
     where
-        E: EncoderModel<PRECISION, Probability = u32>,
+        E: EncoderModel<PRECISION, Probability: ModelWord>,
     {
-        let Some((left, weight)) = model.left_cumulative_and_probability(symbol) else {
+        let Some((left, weight)) = entry_of_symbol::<E, PRECISION>(model, symbol) else {
             return Err(CoderError::Frontend(DefaultEncoderFrontendError::ImpossibleSymbol));
         };
         let unit = unit_of::<PRECISION>(self.range);
         let by = unit * left as u64;
-        let range = unit * weight.get() as u64;
+        let range = unit * weight as u64;
         if range >= 1 << 32 {
             self.lower = raised(&mut self.words, self.lower, by);
             self.range = range;

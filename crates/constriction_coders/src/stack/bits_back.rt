@@ -8,61 +8,22 @@
 //! Decoding undoes these steps, the last one first. So step 1 costs nothing: what it took from the
 //! coder comes back.
 
-ghost use Rattle.std.specs.Prelude.{◌≡◌, ◌+◌, ◌%◌, ◌^◌, ◌<◌, ◌≤◌, ◌⊎◌, None, Some, Err, IfOk, IfSome, OnOk, OnErr, length, vec_capacity};
+ghost use Rattle.std.specs.Prelude.{◌≡◌, ◌+◌, ◌%◌, ◌^◌, ◌<◌, ◌≤◌, ◌⊎◌, None, Err, IfOk, OnOk, OnErr, length, vec_capacity};
 ghost use Rattle.std.specs.Fn.{FnReturnsAt};
-ghost use Rattle.constriction_model.specs.Rows.{Row, IsRowOf, entry_of};
+ghost use Rattle.constriction_model.specs.Rows.{entry_of};
 ghost use Rattle.constriction_coders.specs.BitsBack.{IsCodedByLatent, IsEncodedByChosen, IsDecodedByChosen, IsChosenByState};
 ghost use Rattle.constriction_coders.specs.AnsCoder.{held_by};
 ghost use Rattle.constriction_coders.specs.Steps.{Content, MayBeHeld, IsOnTop, IsEncoded, IsDecoded};
 ghost use Rattle.constriction_model.specs.Precision.{IsPrecision};
 
+use crate::entry::{Entry, entry_of_symbol, symbol_and_entry};
 use crate::laws::may_be_held;
+use crate::model_word::ModelWord;
 use crate::stack::ans_coder::AnsCoder;
 use crate::stack::state::quantile_of;
 use constriction_model::{DecoderModel, EncoderModel};
 use constriction_words::{CoderError, DefaultEncoderFrontendError};
 use std::alloc::AllocError;
-
-/// A left cumulative and a weight.
-type Entry = (u32, u32);
-
-/// The entry of a symbol.
-fn entry_of_symbol<E, const PRECISION: usize>(model: &E, symbol: &E::Symbol) -> Option<Entry>
-where
-    E: EncoderModel<PRECISION, Probability = u32>,
-    ensures known { IfSome result (λ entry.
-        entry_of E.symbol_eq (E.rows model.now) symbol.now ≡ Some (entry.0, entry.1)) }
-    ensures none { result ≡ None → entry_of E.symbol_eq (E.rows model.now) symbol.now ≡ None }
-    ensures some { IfSome result (λ entry. 0 < entry.1) }
-    ensures within { IfSome result (λ entry. entry.0 + entry.1 ≤ 2 ^ PRECISION) }
-{
-    match model.left_cumulative_and_probability(symbol) {
-        Some((left, weight)) => Some((left, weight.get())),
-        None => None,
-    }
-}
-
-/// The symbol of a quantile, and its entry.
-fn symbol_and_entry<D, const PRECISION: usize>(
-    model: &D,
-    quantile: u32,
-) -> Result<(D::Symbol, Entry), AllocError>
-where
-    D: DecoderModel<PRECISION, Probability = u32>,
-    requires { quantile < 2 ^ PRECISION }
-    ensures found { IfOk result (λ answer. (row : Row D.Symbol)
-        × IsRowOf (D.rows model.now) quantile row × D.stands_for row.symbol answer.0
-        × (row.left ≡ answer.1.0) × (row.weight ≡ answer.1.1)) }
-    ensures some { IfOk result (λ answer. 0 < answer.1.1) }
-    ensures within { IfOk result (λ answer. answer.1.0 + answer.1.1 ≤ 2 ^ PRECISION) }
-    ensures from { IfOk result (λ answer. answer.1.0 ≤ quantile) }
-    ensures to { IfOk result (λ answer. quantile < answer.1.0 + answer.1.1) }
-{
-    match model.quantile_function(quantile) {
-        Ok((symbol, left, weight)) => Ok((symbol, (left, weight.get()))),
-        Err(error) => Err(error),
-    }
-}
 
 /// Takes the symbol of this entry from the top. A read of a `Vec` does not fail.
 fn take_from_vec<const PRECISION: usize>(coder: &mut AnsCoder<Vec<u32>>, entry: Entry)
@@ -102,33 +63,36 @@ fn put_reserved<const PRECISION: usize>(coder: &mut AnsCoder<Vec<u32>>, entry: E
 
 /// Takes a symbol from the top and puts two others there. If memory for their words is refused, the
 /// coder stays as it was.
-fn exchange<const PRECISION: usize>(
+fn exchange<const DRAWN: usize, const CODED: usize, const PAID: usize>(
     coder: &mut AnsCoder<Vec<u32>>,
     drawn: Entry,
     coded: Entry,
     paid: Entry,
 ) -> Result<(), AllocError>
-    requires precision { IsPrecision 32 PRECISION }
+    requires drawn_fits { DRAWN ≤ 32 }
     requires drawn_some { 0 < drawn.1 }
-    requires drawn_within { drawn.0 + drawn.1 ≤ 2 ^ PRECISION }
-    requires from { drawn.0 ≤ coder.old.state % 2 ^ PRECISION }
-    requires to { coder.old.state % 2 ^ PRECISION < drawn.0 + drawn.1 }
+    requires drawn_within { drawn.0 + drawn.1 ≤ 2 ^ DRAWN }
+    requires from { drawn.0 ≤ coder.old.state % 2 ^ DRAWN }
+    requires to { coder.old.state % 2 ^ DRAWN < drawn.0 + drawn.1 }
+    requires coded_precision { IsPrecision 32 CODED }
     requires coded_some { 0 < coded.1 }
-    requires coded_within { coded.0 + coded.1 ≤ 2 ^ PRECISION }
+    requires coded_within { coded.0 + coded.1 ≤ 2 ^ CODED }
+    requires paid_precision { IsPrecision 32 PAID }
     requires paid_some { 0 < paid.1 }
-    requires paid_within { paid.0 + paid.1 ≤ 2 ^ PRECISION }
-    ensures ok { OnOk result ((rest full : Content) × IsOnTop PRECISION drawn.0 drawn.1
-        (held_by coder.old) rest × IsOnTop PRECISION coded.0 coded.1 full rest
-        × IsOnTop PRECISION paid.0 paid.1 (held_by coder.new) full) }
+    requires paid_within { paid.0 + paid.1 ≤ 2 ^ PAID }
+    ensures ok { OnOk result ((rest full : Content)
+        × IsOnTop DRAWN drawn.0 drawn.1 (held_by coder.old) rest
+        × IsOnTop CODED coded.0 coded.1 full rest
+        × IsOnTop PAID paid.0 paid.1 (held_by coder.new) full) }
     ensures same { OnErr result (held_by coder.new ≡ held_by coder.old) }
 {
     match coder.words.reserve(2) {
         Ok(()) => {}
         Err(error) => return Err(error),
     }
-    take_from_vec::<PRECISION>(coder, drawn);
-    put_reserved::<PRECISION>(coder, coded);
-    put_reserved::<PRECISION>(coder, paid);
+    take_from_vec::<DRAWN>(coder, drawn);
+    put_reserved::<CODED>(coder, coded);
+    put_reserved::<PAID>(coder, paid);
     Ok(())
 }
 
@@ -140,12 +104,16 @@ fn exchange<const PRECISION: usize>(
 pub fn encode<
     Symbol,
     Latent: Drop,
-    PosteriorModel: DecoderModel<PRECISION, Symbol = Latent, Probability = u32> + Drop,
-    LikelihoodModel: EncoderModel<PRECISION, Symbol = Symbol, Probability = u32> + Drop,
-    Prior: EncoderModel<PRECISION, Symbol = Latent, Probability = u32>,
+    PosteriorModel: DecoderModel<POSTERIOR_PRECISION, Symbol = Latent, Probability: ModelWord>
+        + Drop,
+    LikelihoodModel: EncoderModel<LIKELIHOOD_PRECISION, Symbol = Symbol, Probability: ModelWord>
+        + Drop,
+    Prior: EncoderModel<PRIOR_PRECISION, Symbol = Latent, Probability: ModelWord>,
     Posterior: Fn(&Symbol) -> PosteriorModel,
     Likelihood: Fn(&Latent) -> LikelihoodModel,
-    const PRECISION: usize,
+    const POSTERIOR_PRECISION: usize,
+    const LIKELIHOOD_PRECISION: usize,
+    const PRIOR_PRECISION: usize,
 >(
     coder: &mut AnsCoder<Vec<u32>>,
     symbol: &Symbol,
@@ -156,35 +124,39 @@ pub fn encode<
     requires posterior { Posterior.IsAlwaysCallable posterior }
     requires likelihood { Likelihood.IsAlwaysCallable likelihood }
     ensures ok { OnOk result (IsCodedByLatent
-        (IsDecodedByChosen (FnReturnsAt Posterior.Fn posterior) PosteriorModel.rows PRECISION
-        PosteriorModel.stands_for) (IsEncodedByChosen (FnReturnsAt Likelihood.Fn likelihood)
-        LikelihoodModel.rows PRECISION LikelihoodModel.symbol_eq)
-        (λ s. IsEncoded (entry_of Prior.symbol_eq (Prior.rows prior.now) s) PRECISION) symbol.now
-        (held_by coder.new) (held_by coder.old)) }
+        (IsDecodedByChosen (FnReturnsAt Posterior.Fn posterior) PosteriorModel.rows
+        POSTERIOR_PRECISION PosteriorModel.stands_for)
+        (IsEncodedByChosen (FnReturnsAt Likelihood.Fn likelihood) LikelihoodModel.rows
+        LIKELIHOOD_PRECISION LikelihoodModel.symbol_eq)
+        (λ s. IsEncoded (entry_of Prior.symbol_eq (Prior.rows prior.now) s) PRIOR_PRECISION)
+        symbol.now (held_by coder.new) (held_by coder.old)) }
     ensures impossible { (fault : _) → result ≡ Err (CoderError.Frontend fault) → (latent : Latent)
-        × IsChosenByState (FnReturnsAt Posterior.Fn posterior) PosteriorModel.rows PRECISION
-        PosteriorModel.stands_for symbol.now latent (held_by coder.old) × (given : LikelihoodModel)
-        × FnReturnsAt Likelihood.Fn likelihood latent given
+        × IsChosenByState (FnReturnsAt Posterior.Fn posterior) PosteriorModel.rows
+        POSTERIOR_PRECISION PosteriorModel.stands_for symbol.now latent (held_by coder.old)
+        × (given : LikelihoodModel) × FnReturnsAt Likelihood.Fn likelihood latent given
         × ((entry_of Prior.symbol_eq (Prior.rows prior.now) latent ≡ None)
         ⊎ (entry_of LikelihoodModel.symbol_eq (LikelihoodModel.rows given) symbol.now ≡ None)) }
     ensures same { OnErr result (held_by coder.new ≡ held_by coder.old) }
 {
     let chosen = posterior(symbol);
-    let (latent, drawn) = match symbol_and_entry::<PosteriorModel, PRECISION>(
+    let (latent, drawn) = match symbol_and_entry::<PosteriorModel, POSTERIOR_PRECISION>(
         &chosen,
-        quantile_of::<PRECISION>(coder.state),
+        quantile_of::<POSTERIOR_PRECISION>(coder.state),
     ) {
         Ok(answer) => answer,
         Err(error) => return Err(CoderError::Backend(error)),
     };
     let given = likelihood(&latent);
-    let Some(coded) = entry_of_symbol::<LikelihoodModel, PRECISION>(&given, symbol) else {
+    let Some(coded) = entry_of_symbol::<LikelihoodModel, LIKELIHOOD_PRECISION>(&given, symbol)
+    else {
         return Err(CoderError::Frontend(DefaultEncoderFrontendError::ImpossibleSymbol));
     };
-    let Some(paid) = entry_of_symbol::<Prior, PRECISION>(prior, &latent) else {
+    let Some(paid) = entry_of_symbol::<Prior, PRIOR_PRECISION>(prior, &latent) else {
         return Err(CoderError::Frontend(DefaultEncoderFrontendError::ImpossibleSymbol));
     };
-    match exchange::<PRECISION>(coder, drawn, coded, paid) {
+    match exchange::<POSTERIOR_PRECISION, LIKELIHOOD_PRECISION, PRIOR_PRECISION>(
+        coder, drawn, coded, paid,
+    ) {
         Ok(()) => Ok(()),
         Err(error) => Err(CoderError::Backend(error)),
     }
@@ -200,12 +172,16 @@ pub fn encode<
 pub fn decode<
     Symbol: Drop,
     Latent: Drop,
-    PosteriorModel: EncoderModel<PRECISION, Symbol = Latent, Probability = u32> + Drop,
-    LikelihoodModel: DecoderModel<PRECISION, Symbol = Symbol, Probability = u32> + Drop,
-    Prior: DecoderModel<PRECISION, Symbol = Latent, Probability = u32>,
+    PosteriorModel: EncoderModel<POSTERIOR_PRECISION, Symbol = Latent, Probability: ModelWord>
+        + Drop,
+    LikelihoodModel: DecoderModel<LIKELIHOOD_PRECISION, Symbol = Symbol, Probability: ModelWord>
+        + Drop,
+    Prior: DecoderModel<PRIOR_PRECISION, Symbol = Latent, Probability: ModelWord>,
     Posterior: Fn(&Symbol) -> PosteriorModel,
     Likelihood: Fn(&Latent) -> LikelihoodModel,
-    const PRECISION: usize,
+    const POSTERIOR_PRECISION: usize,
+    const LIKELIHOOD_PRECISION: usize,
+    const PRIOR_PRECISION: usize,
 >(
     coder: &mut AnsCoder<Vec<u32>>,
     posterior: Posterior,
@@ -215,25 +191,26 @@ pub fn decode<
     requires posterior { Posterior.IsAlwaysCallable posterior }
     requires likelihood { Likelihood.IsAlwaysCallable likelihood }
     ensures ok { IfOk result (λ symbol. IsCodedByLatent (IsEncodedByChosen
-        (FnReturnsAt Posterior.Fn posterior) PosteriorModel.rows PRECISION PosteriorModel.symbol_eq)
-        (IsDecodedByChosen (FnReturnsAt Likelihood.Fn likelihood) LikelihoodModel.rows PRECISION
-        LikelihoodModel.stands_for) (IsDecoded Prior.stands_for (Prior.rows prior.now) PRECISION)
-        symbol (held_by coder.old) (held_by coder.new)) }
+        (FnReturnsAt Posterior.Fn posterior) PosteriorModel.rows POSTERIOR_PRECISION
+        PosteriorModel.symbol_eq) (IsDecodedByChosen (FnReturnsAt Likelihood.Fn likelihood)
+        LikelihoodModel.rows LIKELIHOOD_PRECISION LikelihoodModel.stands_for)
+        (IsDecoded Prior.stands_for (Prior.rows prior.now) PRIOR_PRECISION) symbol
+        (held_by coder.old) (held_by coder.new)) }
     ensures impossible { (fault : _) → result ≡ Err (CoderError.Frontend fault)
         → (latent : Latent) × (full : Content) × IsDecoded Prior.stands_for (Prior.rows prior.now)
-        PRECISION latent (held_by coder.old) full × (symbol : Symbol)
-        × IsChosenByState (FnReturnsAt Likelihood.Fn likelihood) LikelihoodModel.rows PRECISION
-        LikelihoodModel.stands_for latent symbol full × (chosen : PosteriorModel)
-        × FnReturnsAt Posterior.Fn posterior symbol chosen
+        PRIOR_PRECISION latent (held_by coder.old) full × (symbol : Symbol)
+        × IsChosenByState (FnReturnsAt Likelihood.Fn likelihood) LikelihoodModel.rows
+        LIKELIHOOD_PRECISION LikelihoodModel.stands_for latent symbol full
+        × (chosen : PosteriorModel) × FnReturnsAt Posterior.Fn posterior symbol chosen
         × (entry_of PosteriorModel.symbol_eq (PosteriorModel.rows chosen) latent ≡ None) }
     ensures same { OnErr result (held_by coder.new ≡ held_by coder.old) }
 {
     // If no symbol is decoded, putting the latent one back leaves what the coder holds now, which
     // it may hold.
     may_be_held(coder);
-    let (latent, paid) = match symbol_and_entry::<Prior, PRECISION>(
+    let (latent, paid) = match symbol_and_entry::<Prior, PRIOR_PRECISION>(
         prior,
-        quantile_of::<PRECISION>(coder.state),
+        quantile_of::<PRIOR_PRECISION>(coder.state),
     ) {
         Ok(answer) => answer,
         Err(error) => return Err(CoderError::Backend(error)),
@@ -242,24 +219,25 @@ pub fn decode<
         Ok(()) => {}
         Err(error) => return Err(CoderError::Backend(error)),
     }
-    take_from_vec::<PRECISION>(coder, paid);
+    take_from_vec::<PRIOR_PRECISION>(coder, paid);
     let given = likelihood(&latent);
-    let (symbol, coded) = match symbol_and_entry::<LikelihoodModel, PRECISION>(
+    let (symbol, coded) = match symbol_and_entry::<LikelihoodModel, LIKELIHOOD_PRECISION>(
         &given,
-        quantile_of::<PRECISION>(coder.state),
+        quantile_of::<LIKELIHOOD_PRECISION>(coder.state),
     ) {
         Ok(answer) => answer,
         Err(error) => {
-            put_reserved::<PRECISION>(coder, paid);
+            put_reserved::<PRIOR_PRECISION>(coder, paid);
             return Err(CoderError::Backend(error));
         }
     };
     let chosen = posterior(&symbol);
-    let Some(returned) = entry_of_symbol::<PosteriorModel, PRECISION>(&chosen, &latent) else {
-        put_reserved::<PRECISION>(coder, paid);
+    let Some(returned) = entry_of_symbol::<PosteriorModel, POSTERIOR_PRECISION>(&chosen, &latent)
+    else {
+        put_reserved::<PRIOR_PRECISION>(coder, paid);
         return Err(CoderError::Frontend(DefaultEncoderFrontendError::ImpossibleSymbol));
     };
-    take_from_vec::<PRECISION>(coder, coded);
-    put_reserved::<PRECISION>(coder, returned);
+    take_from_vec::<LIKELIHOOD_PRECISION>(coder, coded);
+    put_reserved::<POSTERIOR_PRECISION>(coder, returned);
     Ok(symbol)
 }

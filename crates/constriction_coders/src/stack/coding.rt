@@ -6,6 +6,8 @@ ghost use Rattle.constriction_coders.specs.Steps.{backend_result, IsDecoded, IsE
 use crate::code::Code;
 use crate::decode::Decode;
 use crate::encode::Encode;
+use crate::entry::{entry_of_symbol, symbol_and_entry};
+use crate::model_word::ModelWord;
 use crate::stack::ans_coder::AnsCoder;
 use crate::stack::state::quantile_of;
 use constriction_backends::{StackSource, WordStack};
@@ -58,12 +60,12 @@ impl<Backend: WordStack<u32>, const PRECISION: usize> Encode<PRECISION> for AnsC
         model: &E,
     ) -> Result<(), CoderError<DefaultEncoderFrontendError, Backend::WriteError>>
     where
-        E: EncoderModel<PRECISION, Probability = u32>,
+        E: EncoderModel<PRECISION, Probability: ModelWord>,
     {
-        let Some((left, weight)) = model.left_cumulative_and_probability(symbol) else {
+        let Some((left, weight)) = entry_of_symbol::<E, PRECISION>(model, symbol) else {
             return Err(CoderError::Frontend(DefaultEncoderFrontendError::ImpossibleSymbol));
         };
-        match self.put_entry::<PRECISION>(left, weight.get()) {
+        match self.put_entry::<PRECISION>(left, weight) {
             Ok(()) => Ok(()),
             Err(error) => Err(CoderError::Backend(error)),
         }
@@ -90,15 +92,15 @@ impl<Backend: StackSource<u32>, const PRECISION: usize> Decode<PRECISION> for An
         model: &D,
     ) -> Result<D::Symbol, CoderError<AllocError, Backend::ReadError>>
     where
-        D: DecoderModel<PRECISION, Probability = u32>,
+        D: DecoderModel<PRECISION, Probability: ModelWord>,
         D::Symbol: Drop,
     {
         let quantile = quantile_of::<PRECISION>(self.state);
-        let (symbol, left, weight) = match model.quantile_function(quantile) {
-            Ok(row) => row,
+        let (symbol, (left, weight)) = match symbol_and_entry::<D, PRECISION>(model, quantile) {
+            Ok(answer) => answer,
             Err(error) => return Err(CoderError::Frontend(error)),
         };
-        match self.take_entry::<PRECISION>(left, weight.get()) {
+        match self.take_entry::<PRECISION>(left, weight) {
             Ok(()) => Ok(symbol),
             Err(error) => Err(CoderError::Backend(error)),
         }

@@ -12,6 +12,7 @@ ghost use Rattle.constriction_model.specs.Rows.{entry_of};
 
 use crate::code::Code;
 use crate::encode::Encode;
+use crate::model_word::ModelWord;
 use crate::stack::ans_coder::AnsCoder;
 use constriction_backends::WordStack;
 use constriction_model::EncoderModel;
@@ -25,7 +26,7 @@ impl<Backend: WordStack<u32>> AnsCoder<Backend> {
         model: &E,
     ) -> Result<(), CoderError<DefaultEncoderFrontendError, Backend::WriteError>>
     where
-        E: EncoderModel<PRECISION, Probability = u32>,
+        E: EncoderModel<PRECISION, Probability: ModelWord>,
         ensures ok { OnOk result (InTurn
             (λ s. IsEncoded (entry_of E.symbol_eq (E.rows model.now) s) PRECISION) symbols.now
             (held_by self.new) (held_by self.old)) }
@@ -51,7 +52,7 @@ impl<Backend: WordStack<u32>> AnsCoder<Backend> {
         symbols_and_models: I,
     ) -> Result<(), CoderError<DefaultEncoderFrontendError, Backend::WriteError>>
     where
-        E: EncoderModel<PRECISION, Probability = u32> + Drop,
+        E: EncoderModel<PRECISION, Probability: ModelWord> + Drop,
         E::Symbol: Drop,
         I: IntoIterator<Item = (E::Symbol, E)>,
         I::IntoIter: DoubleEndedIterator,
@@ -76,7 +77,7 @@ impl<Backend: WordStack<u32>> AnsCoder<Backend> {
         model: &E,
     ) -> Result<(), CoderError<DefaultEncoderFrontendError, Backend::WriteError>>
     where
-        E: EncoderModel<PRECISION, Probability = u32>,
+        E: EncoderModel<PRECISION, Probability: ModelWord>,
         E::Symbol: Drop,
         I: IntoIterator<Item = E::Symbol>,
         I::IntoIter: DoubleEndedIterator,

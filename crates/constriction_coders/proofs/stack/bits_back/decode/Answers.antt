@@ -1,40 +1,44 @@
-use Rattle.std.proofs.Common.{refl, subst, List, ℕ}
+use Rattle.std.proofs.Common.{refl, subst, List, ℕ, arith}
 use Rattle.std.proofs.lemmas.Fn.{says_at}
 use Rattle.constriction_coders.specs.AnsCoder.{held_by}
 use Rattle.constriction_coders.specs.Steps.{content, IsOnTop}
-use Rattle.constriction_coders.proofs.Exchanging.{decoded-row, undone}
+use Rattle.constriction_coders.proofs.Exchanging.{undone}
+use Rattle.constriction_coders.proofs.Steps.{decoded}
 use Rattle.constriction_coders.proofs.stack.bits_back.decode.Goals as goal
 
 pub returns-in-Err-symbol_and_entry-clause-same : goal.returns-in-Err-symbol_and_entry-clause-same
 returns-in-Err-symbol_and_entry-clause-same g c =
-    undone g.row.PRECISION c.in-Ok.answer.1.0 c.in-Ok.answer.1.1 c.args.coder.now.state
+    undone g.row.PRIOR_PRECISION c.in-Ok.answer.1.0 c.in-Ok.answer.1.1 c.args.coder.now.state
     c.args.coder.now.words.items c.reserve.new.self.items (held_by c.take_from_vec.new.coder) (held_by c.put_reserved.new.coder)
-    (g.met.Prior.EntropyModel.precision_law c.args.prior.now).fits c.may_be_held.ensures
+    (omega (arith, (g.met.Prior.EntropyModel.precision_law c.args.prior.now).fits, g.met.Prior.Probability.ModelWord.width_law))
+    c.may_be_held.ensures
     c.put_reserved.ensures.held c.reserve.ensures.items c.take_from_vec.ensures.under c.put_reserved.ensures.over
 
 pub returns-in_default-clause-same : goal.returns-in_default-clause-same
 returns-in_default-clause-same g c =
-    undone g.row.PRECISION c.in-Ok.answer.1.0 c.in-Ok.answer.1.1 c.args.coder.now.state
+    undone g.row.PRIOR_PRECISION c.in-Ok.answer.1.0 c.in-Ok.answer.1.1 c.args.coder.now.state
     c.args.coder.now.words.items c.reserve.new.self.items (held_by c.take_from_vec.new.coder) (held_by c.put_reserved-in_default.new.coder)
-    (g.met.Prior.EntropyModel.precision_law c.args.prior.now).fits c.may_be_held.ensures
+    (omega (arith, (g.met.Prior.EntropyModel.precision_law c.args.prior.now).fits, g.met.Prior.Probability.ModelWord.width_law))
+    c.may_be_held.ensures
     c.put_reserved-in_default.ensures.held c.reserve.ensures.items c.take_from_vec.ensures.under c.put_reserved-in_default.ensures.over
 
 pub returns-in_default-clause-impossible : goal.returns-in_default-clause-impossible
 returns-in_default-clause-impossible g c = λ fault is.
-    let taken = subst (λ (ws : List ℕ). IsOnTop g.row.PRECISION c.in-Ok.answer.1.0 c.in-Ok.answer.1.1 (content c.args.coder.now.state ws)
+    let taken = subst (λ (ws : List ℕ). IsOnTop g.row.PRIOR_PRECISION c.in-Ok.answer.1.0 c.in-Ok.answer.1.1 (content c.args.coder.now.state ws)
     (held_by c.take_from_vec.new.coder)) c.reserve.ensures.items c.take_from_vec.ensures.under in
-    let found = c.in-Ok-symbol_and_entry.ensures.found in (
+    let row = c.in-Ok-symbol_and_entry.ensures.row in (
       c.in-Ok.answer.0,
       held_by c.take_from_vec.new.coder,
-      decoded-row g.row.PRECISION c.in-Ok.answer.1.0 c.in-Ok.answer.1.1 c.quantile_of.result g.Prior.DecoderModel.stands_for
-          (g.Prior.EntropyModel.rows c.args.prior.now) c.in-Ok.answer.0 _ _ c.quantile_of.ensures c.in-Ok.ensures.found taken,
+      decoded g.row.PRIOR_PRECISION c.in-Ok.answer.1.0 c.in-Ok.answer.1.1 g.Prior.DecoderModel.stands_for
+          (g.Prior.EntropyModel.rows c.args.prior.now) c.in-Ok.ensures.row.0 c.in-Ok.answer.0 c.quantile_of.result _ _
+          c.quantile_of.ensures c.in-Ok.ensures.row.2 c.in-Ok.ensures.row.1 taken,
       c.in-Ok-symbol_and_entry.answer.0,
       (
         c.likelihood-given.result,
         says_at g.Likelihood.Fn c.likelihood-given.ensures refl,
-        found.0,
-        rw c.quantile_of-2.ensures at found.1,
-        found.2,
+        _,
+        rw c.quantile_of-2.ensures at row.2,
+        row.1,
       ),
       c.posterior-chosen.result,
       says_at g.Posterior.Fn c.posterior-chosen.ensures refl,
@@ -43,13 +47,13 @@ returns-in_default-clause-impossible g c = λ fault is.
 
 pub returns-clause-ok : goal.returns-clause-ok
 returns-clause-ok g c =
-    let taken = subst (λ (ws : List ℕ). IsOnTop g.row.PRECISION c.in-Ok.answer.1.0 c.in-Ok.answer.1.1 (content c.args.coder.now.state ws)
+    let taken = subst (λ (ws : List ℕ). IsOnTop g.row.PRIOR_PRECISION c.in-Ok.answer.1.0 c.in-Ok.answer.1.1 (content c.args.coder.now.state ws)
     (held_by c.take_from_vec.new.coder)) c.reserve.ensures.items c.take_from_vec.ensures.under in
     let coded =
-    decoded-row g.row.PRECISION c.in-Ok-symbol_and_entry.answer.1.0 c.in-Ok-symbol_and_entry.answer.1.1 c.quantile_of-2.result
+    decoded g.row.LIKELIHOOD_PRECISION c.in-Ok-symbol_and_entry.answer.1.0 c.in-Ok-symbol_and_entry.answer.1.1
     g.LikelihoodModel.DecoderModel.stands_for (g.LikelihoodModel.EntropyModel.rows c.likelihood-given.result)
-    c.in-Ok-symbol_and_entry.answer.0 _ _ c.quantile_of-2.ensures c.in-Ok-symbol_and_entry.ensures.found
-    c.take_from_vec-2.ensures.under in
+    c.in-Ok-symbol_and_entry.ensures.row.0 c.in-Ok-symbol_and_entry.answer.0 c.quantile_of-2.result _ _ c.quantile_of-2.ensures
+    c.in-Ok-symbol_and_entry.ensures.row.2 c.in-Ok-symbol_and_entry.ensures.row.1 c.take_from_vec-2.ensures.under in
     record {
       latent = c.in-Ok.answer.0;
       drawn = held_by c.take_from_vec-2.new.coder;
@@ -66,6 +70,7 @@ returns-clause-ok g c =
       coded = held_by c.take_from_vec.new.coder;
       likelihood = (c.likelihood-given.result, says_at g.Likelihood.Fn c.likelihood-given.ensures refl, coded);
       prior =
-          decoded-row g.row.PRECISION c.in-Ok.answer.1.0 c.in-Ok.answer.1.1 c.quantile_of.result g.Prior.DecoderModel.stands_for
-          (g.Prior.EntropyModel.rows c.args.prior.now) c.in-Ok.answer.0 _ _ c.quantile_of.ensures c.in-Ok.ensures.found taken;
+          decoded g.row.PRIOR_PRECISION c.in-Ok.answer.1.0 c.in-Ok.answer.1.1 g.Prior.DecoderModel.stands_for
+          (g.Prior.EntropyModel.rows c.args.prior.now) c.in-Ok.ensures.row.0 c.in-Ok.answer.0 c.quantile_of.result _ _
+          c.quantile_of.ensures c.in-Ok.ensures.row.2 c.in-Ok.ensures.row.1 taken;
     }

@@ -1,18 +1,18 @@
 use Rattle.std.proofs.Common.{refl, inl, inr}
 use Rattle.std.proofs.lemmas.Fn.{says_at}
-use Rattle.constriction_coders.proofs.Exchanging.{decoded-row}
+use Rattle.constriction_coders.proofs.Steps.{decoded}
 use Rattle.constriction_coders.proofs.stack.bits_back.encode.Goals as goal
 
 pub returns-in_default-clause-impossible : goal.returns-in_default-clause-impossible
 returns-in_default-clause-impossible g c = λ fault is.
-    let found = c.in-Ok.ensures.found in (
+    let row = c.in-Ok.ensures.row in (
       c.in-Ok.answer.0,
       (
         c.posterior-chosen.result,
         says_at g.Posterior.Fn c.posterior-chosen.ensures refl,
-        found.0,
-        rw c.quantile_of.ensures at found.1,
-        found.2,
+        _,
+        rw c.quantile_of.ensures at row.2,
+        row.1,
       ),
       c.likelihood-given.result,
       says_at g.Likelihood.Fn c.likelihood-given.ensures refl,
@@ -21,14 +21,14 @@ returns-in_default-clause-impossible g c = λ fault is.
 
 pub returns-in_default-entry_of_symbol-clause-impossible : goal.returns-in_default-entry_of_symbol-clause-impossible
 returns-in_default-entry_of_symbol-clause-impossible g c = λ fault is.
-    let found = c.in-Ok.ensures.found in (
+    let row = c.in-Ok.ensures.row in (
       c.in-Ok.answer.0,
       (
         c.posterior-chosen.result,
         says_at g.Posterior.Fn c.posterior-chosen.ensures refl,
-        found.0,
-        rw c.quantile_of.ensures at found.1,
-        found.2,
+        _,
+        rw c.quantile_of.ensures at row.2,
+        row.1,
       ),
       c.likelihood-given.result,
       says_at g.Likelihood.Fn c.likelihood-given.ensures refl,
@@ -39,9 +39,9 @@ pub returns-in-Ok-exchange-clause-ok : goal.returns-in-Ok-exchange-clause-ok
 returns-in-Ok-exchange-clause-ok g c =
     let moved = c.in-Ok-exchange.ensures.ok in
     let drawn =
-    decoded-row g.row.PRECISION c.in-Ok.answer.1.0 c.in-Ok.answer.1.1 c.quantile_of.result g.PosteriorModel.DecoderModel.stands_for
-    (g.PosteriorModel.EntropyModel.rows c.posterior-chosen.result) c.in-Ok.answer.0 _ _ c.quantile_of.ensures c.in-Ok.ensures.found
-    moved.2 in
+    decoded g.row.POSTERIOR_PRECISION c.in-Ok.answer.1.0 c.in-Ok.answer.1.1 g.PosteriorModel.DecoderModel.stands_for
+    (g.PosteriorModel.EntropyModel.rows c.posterior-chosen.result) c.in-Ok.ensures.row.0 c.in-Ok.answer.0 c.quantile_of.result _ _
+    c.quantile_of.ensures c.in-Ok.ensures.row.2 c.in-Ok.ensures.row.1 moved.2 in
     record {
       latent = c.in-Ok.answer.0;
       drawn = moved.0;

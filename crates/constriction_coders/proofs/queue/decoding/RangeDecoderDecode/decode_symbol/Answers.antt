@@ -10,10 +10,9 @@ invariant_of-self g c =
 pub returns-then-range-clause-ok : goal.returns-then-range-clause-ok
 returns-then-range-clause-ok g c =
     let row = c.in-Ok.ensures.row in
-    let weight_is = c.get.ensures.value in
     read_wide g.D.DecoderModel.stands_for (g.D.EntropyModel.rows c.args.model.now) g.Source.ReadWords.read_gives g.row.PRECISION row.0
-    c.in-Ok.symbol c.args.self.now.range c.args.self.now.offset c.unit_of-unit.result c.in-Ok.left c.get.result c.in-Some.quantile
-    c.args.self.now.words c.args.self.now.words c.unit_of-unit.ensures.value (rw weight_is row.2) row.1 c.part_of-range.ensures.low
+    c.in-Ok.symbol c.args.self.now.range c.args.self.now.offset c.unit_of-unit.result c.in-Ok.entry.0 c.in-Ok.entry.1 c.in-Some.quantile
+    c.args.self.now.words c.args.self.now.words c.unit_of-unit.ensures.value row.2 row.1 c.part_of-range.ensures.low
     c.part_of-range.ensures.high c.part_of-range.result.0 c.part_of-range.result.1 c.part_of-range.ensures.range
     c.part_of-range.ensures.offset c.if-range.true refl
 
@@ -32,11 +31,10 @@ invariant_of-self-in-Ok-next_or_zero g c =
 pub returns-in-Ok-next_or_zero-clause-ok : goal.returns-in-Ok-next_or_zero-clause-ok
 returns-in-Ok-next_or_zero-clause-ok g c =
     let row = c.in-Ok.ensures.row in
-    let weight_is = c.get.ensures.value in
     let read = c.in-Ok-next_or_zero.ensures.ok in
     read_small g.D.DecoderModel.stands_for (g.D.EntropyModel.rows c.args.model.now) g.Source.ReadWords.read_gives g.row.PRECISION row.0
-    c.in-Ok.symbol c.args.self.now.range c.args.self.now.offset c.unit_of-unit.result c.in-Ok.left c.get.result c.in-Some.quantile
-    c.args.self.now.words c.next_or_zero.new.source c.unit_of-unit.ensures.value (rw weight_is row.2) row.1 c.part_of-range.ensures.low
+    c.in-Ok.symbol c.args.self.now.range c.args.self.now.offset c.unit_of-unit.result c.in-Ok.entry.0 c.in-Ok.entry.1 c.in-Some.quantile
+    c.args.self.now.words c.next_or_zero.new.source c.unit_of-unit.ensures.value row.2 row.1 c.part_of-range.ensures.low
     c.part_of-range.ensures.high c.part_of-range.result.0 c.part_of-range.result.1 c.in-Ok-next_or_zero.word
     (c.part_of-range.result.0 * 4294967296 % 18446744073709551616)
     (c.part_of-range.result.1 * 4294967296 % 18446744073709551616 + c.in-Ok-next_or_zero.word)
