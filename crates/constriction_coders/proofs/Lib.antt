@@ -17,6 +17,7 @@ pub mod PlacesComingBack
 pub mod Placing
 pub mod PublishedWords
 pub mod RangePlacing
+pub mod Reciprocals
 pub mod Sealing
 pub mod Spanning
 pub mod Stacking

@@ -6,8 +6,12 @@ pub mod bits_back;
 mod coding;
 mod compressed;
 mod positions;
+mod prepared_entry;
+mod prepared_model;
 mod runs;
 mod state;
 
 pub use self::ans_coder::AnsCoder;
 pub use self::coding::StackContent;
+pub use self::prepared_entry::PreparedEntry;
+pub use self::prepared_model::PreparedModel;
