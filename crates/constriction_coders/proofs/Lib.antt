@@ -5,6 +5,7 @@ pub mod ComingBack
 pub mod CountsLemmas
 pub mod Decoding
 pub mod Exchanging
+pub mod Filling
 pub mod Giving
 pub mod GoingBack
 pub mod Intervals

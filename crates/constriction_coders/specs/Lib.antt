@@ -6,6 +6,7 @@ pub mod Counts
 pub mod Decoding
 pub mod EncodedWords
 pub mod Encoding
+pub mod Filling
 pub mod Intervals
 pub mod Laws
 pub mod Numbers

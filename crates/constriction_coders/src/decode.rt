@@ -1,11 +1,12 @@
 //! What decodes symbols, at once or as they are asked for.
 
-ghost use Rattle.std.specs.Prelude.{◌≡◌, ⊤, false, List, Result, Err, IfOk, IfErr, length};
+ghost use Rattle.std.specs.Prelude.{◌≡◌, ⊤, false, List, Result, Err, IfOk, IfErr, OnOk, length};
 ghost use Rattle.std.specs.Allocator.{alloc_error};
 ghost use Rattle.std.specs.Iterator.{at_most, count_unless, size};
 ghost use Rattle.std.specs.Iterator.Adapters.{fuse_done, fuse_source, fuse_steps};
 ghost use Rattle.std.specs.Iterator.SizeHint.{IsExactHint};
 ghost use Rattle.constriction_coders.specs.Decoding.{Decodes, DecodingStops};
+ghost use Rattle.constriction_coders.specs.Filling.{FillingStops};
 ghost use Rattle.constriction_coders.specs.Walks.{StepsByModel, StepsOn};
 ghost use Rattle.constriction_model.specs.Coding.{InTurn};
 ghost use Rattle.constriction_model.specs.Rows.{Row};
@@ -91,6 +92,39 @@ pub trait Decode<const PRECISION: usize>: Code {
             }
         }
         Ok(symbols)
+    }
+
+    /// Decodes as many symbols as the slice has, and writes them there in order. No memory for them
+    /// is asked for.
+    ///
+    /// An error leaves the symbols that were decoded before it at the beginning of the slice, and
+    /// the others as they were.
+    fn decode_into<D>(
+        &mut self,
+        symbols: &mut [D::Symbol],
+        model: &D,
+    ) -> Result<(), CoderError<Self::FrontendError, Self::BackendError>>
+    where
+        Self: Sized,
+        D: DecoderModel<PRECISION, Probability = u32>,
+        D::Symbol: Drop,
+        requires { can_decode self.old }
+        ensures goes_on { can_decode self.new }
+        ensures length { length symbols.new ≡ length symbols.old }
+        ensures ok { OnOk result (InTurn (is_decoded D.Symbol D.stands_for (D.rows model.now))
+            symbols.new (Self.held self.old) (Self.held self.new)) }
+        ensures err { IfErr result (λ error.
+            FillingStops Self.held (is_decoded D.Symbol D.stands_for (D.rows model.now))
+            (decodes D.Symbol D.may_refuse (D.rows model.now)) symbols.old symbols.new error
+            (Self.held self.old) self.new) }
+    {
+        for done in 0..symbols.len() {
+            match self.decode_symbol(model) {
+                Ok(symbol) => symbols[done] = symbol,
+                Err(error) => return Err(error),
+            }
+        }
+        Ok(())
     }
 }
 
