@@ -6,6 +6,7 @@ pub mod bits_back;
 mod coding;
 mod compressed;
 mod positions;
+mod prepared_coding;
 mod prepared_entry;
 mod prepared_model;
 mod runs;

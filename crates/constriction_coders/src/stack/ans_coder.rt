@@ -41,7 +41,7 @@ impl AnsCoder<Vec<u32>> {
 /// The state with room for a symbol of this weight. If it has no room, its low word is first moved
 /// to the stack.
 #[inline]
-fn with_room<Backend: WordStack<u32>, const PRECISION: usize>(
+pub(crate) fn with_room<Backend: WordStack<u32>, const PRECISION: usize>(
     words: &mut Backend,
     state: u64,
     weight: u32,
