@@ -1,11 +1,13 @@
 -- A list is filled with symbols that are decoded, from its beginning on.
-use Rattle.std.proofs.Common.{◌≡◌, ℕ, ◌+◌, ◌<◌, ◌≤◌, List, ◌++◌, length, take, drop, slice_set, Result, Err, refl, ap, sym, ◌∙◌, subst, arith}
+use Rattle.std.proofs.Common.{◌≡◌, ℕ, ◌+◌, ◌-◌, ◌<◌, ◌≤◌, List, [], ◌++◌, length, take, drop, slice_set, Result, Err, refl, ap, sym, ◌∙◌, subst, arith}
+use borrow.Rule.Slice.PartMut.{put_mid}
 use Rattle.std.proofs.lemmas.Grind.{take-set_at}
-use Rattle.std.proofs.lemmas.List.{drop-set-lt, drop_more, length-set, length-take-le, take-append-drop}
+use Rattle.std.proofs.lemmas.List.{drop-set-lt, drop_more, length-set, length-take-le, take-append-drop, take_at, drop_at, drop_all, drop-drop, length-drop, length-append, append_assoc, append-nil}
 use Rattle.constriction_model.specs.Coding.{InTurn}
 use Rattle.constriction_model.specs.lemmas.Turns.{turn-last}
 use Rattle.constriction_words.specs.declared.CoderError.{CoderError}
-use Rattle.constriction_coders.specs.Filling.{IsFilled, FillingStops}
+use Rattle.constriction_coders.proofs.Stopping.{turns-append}
+use Rattle.constriction_coders.specs.Filling.{IsFilled, IsFilledTo, FillingStops}
 
 -- lists with the same symbols from a place on have the same after it
 drop-next : {X : Type 0} (xs ys : List X) (i : ℕ) (x : X) → i < length xs → i < length ys → drop i xs ≡ drop i ys
@@ -43,6 +45,11 @@ module _ {Coder Content Symbol : Type 0} (held : Coder → Content) (Step : Symb
     led = led;
   }
 
+  -- so many places are filled
+  pub filled-to : (count : ℕ) → i ≡ count → count ≤ length before → IsFilledTo held Step count before symbols old reached
+  filled-to count same within =
+      let short : i ≤ length before = omega (arith, same, within) in (filled-so-far short, many_taken short ∙ same)
+
   -- it is not filled further
   pub filling-stops : {Fault E : Type 0} (Tells : Coder → Result Symbol (CoderError Fault E) → Coder → Type 0) (error : CoderError Fault E)
       (new : Coder) → i < length before → Tells reached (Err error) new
@@ -53,4 +60,67 @@ module _ {Coder Content Symbol : Type 0} (held : Coder → Content) (Step : Symb
         first = filled-so-far within;
         fewer = omega (arith, many_taken within, less);
         step = step;
+      }
+
+-- a list whose symbols were all decoded is filled
+pub all-filled : {Coder Content Symbol : Type 0} (held : Coder → Content) (Step : Symbol → Content → Content → Type 0)
+    (before symbols : List Symbol) (old : Content) (reached : Coder) → length symbols ≡ length before
+    → InTurn Step symbols old (held reached) → IsFilled held Step before symbols old reached
+all-filled held Step before symbols old reached long led = record {
+  done = symbols;
+  filled =
+      sym (append-nil symbols) ∙ ap (λ ys. symbols ++ ys) (sym (drop_all (length symbols) before (omega (arith, long))));
+  within = omega (arith, long);
+  led = led;
+}
+
+-- a list whose rest was written has what it had before that, and then what was written
+pub rest-put : {X : Type 0} (from : ℕ) (xs ys : List X) → from ≤ length xs
+    → put_mid from (length xs - from) xs ys ≡ take from xs ++ ys
+rest-put from xs ys within =
+    let none : drop (length xs - from) (drop from xs) ≡ [] =
+    drop_all (length xs - from) (drop from xs) (omega (arith, length-drop from xs)) in
+    ap (λ zs. take from xs ++ (ys ++ zs)) none ∙ ap (λ zs. take from xs ++ zs) (append-nil ys)
+
+-- The rest of a list is filled after its first places.
+module _ {Coder Content Symbol : Type 0} (held : Coder → Content) (Step : Symbol → Content → Content → Type 0) (from : ℕ)
+    (before symbols after rest : List Symbol) (old : Content) (reached : Coder)
+    (first : IsFilledTo held Step from before symbols old reached) (is : after ≡ take from symbols ++ rest) where
+  own : take from symbols ≡ first.0.done
+  own = ap (λ ys. take from ys) first.0.filled ∙ take_at first.0.done (drop (length first.0.done) before) from first.1
+
+  left : drop from symbols ≡ drop (length first.0.done) before
+  left = ap (λ ys. drop from ys) first.0.filled ∙ drop_at first.0.done (drop (length first.0.done) before) from first.1
+
+  together : after ≡ first.0.done ++ rest
+  together = is ∙ ap (λ ys. ys ++ rest) own
+
+  pub rest-filled : (last : Content) → InTurn Step rest (held reached) last → InTurn Step after old last
+  rest-filled last led =
+      subst (λ (ys : List Symbol). InTurn Step ys old last) (sym together)
+      (turns-append Step first.0.done rest old (held reached) last first.0.led led)
+
+  pub rest-stops : {Fault E : Type 0} (Tells : Coder → Result Symbol (CoderError Fault E) → Coder → Type 0) (error : CoderError Fault E)
+      (new : Coder) → FillingStops held Step Tells (drop from symbols) rest error (held reached) new
+      → FillingStops held Step Tells before after error old new
+  rest-stops Tells error new stops =
+      let more : List Symbol = stops.first.done in
+      let places : length (drop from symbols) ≡ length before - length first.0.done =
+      ap length left ∙ length-drop (length first.0.done) before in
+      let all : length (first.0.done ++ more) ≡ length first.0.done + length more = length-append first.0.done more in
+      record {
+        reached = stops.reached;
+        first = record {
+          done = first.0.done ++ more;
+          filled =
+              together ∙ ap (λ ys. first.0.done ++ ys) stops.first.filled
+              ∙ ap (λ ys. first.0.done ++ (more ++ drop (length more) ys)) left
+              ∙ ap (λ ys. first.0.done ++ (more ++ ys)) (drop-drop (length more) (length first.0.done) before)
+              ∙ ap (λ n. first.0.done ++ (more ++ drop n before)) (sym all)
+              ∙ sym (append_assoc first.0.done more (drop (length (first.0.done ++ more)) before));
+          within = omega (arith, all, places, stops.fewer, first.0.within);
+          led = turns-append Step first.0.done more old (held reached) (held stops.reached) first.0.led stops.first.led;
+        };
+        fewer = omega (arith, all, places, stops.fewer, first.0.within);
+        step = stops.step;
       }

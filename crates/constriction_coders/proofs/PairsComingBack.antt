@@ -15,12 +15,7 @@ use Rattle.constriction_coders.proofs.ComingBack.{symbol-back}
 use Rattle.constriction_coders.proofs.Decoding.{range-symbol-back}
 use Rattle.constriction_coders.proofs.PlacesComingBack.{not-above}
 use Rattle.constriction_coders.proofs.Spanning.{lies-run, some-symbol}
-
--- a run goes on by another
-turns-append : {Place Content : Type 0} (Step : Place → Content → Content → Type 0) (xs ys : List Place) (first mid last : Content)
-    → InTurn Step xs first mid → InTurn Step ys mid last → InTurn Step (xs ++ ys) first last
-turns-append Step [] ys first mid last e f = subst (λ c. InTurn Step ys c last) (sym e) f
-turns-append Step (x ∷ xs) ys first mid last (next, step, others) f = (next, step, turns-append Step xs ys next mid last others f)
+use Rattle.constriction_coders.proofs.Stopping.{turns-append}
 
 module _ {Symbol Model Other : Type 0} (eq : Symbol → Symbol → Bool) (rows : Model → List (Row Symbol)) (Stands : Symbol → Symbol → Type 0)
     (other_rows : Other → List (Row Symbol)) (bits precision : ℕ) (tile : (m : Other) → RowsTile bits precision (other_rows m)) where

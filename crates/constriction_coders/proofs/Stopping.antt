@@ -44,3 +44,9 @@ turns-back so [] a b same = sym same
 turns-back {Symbol} {Back = Back} so (x ∷ xs) a b (j, step, others) =
     subst (λ (ys : List Symbol). InTurn Back ys b a) (sym (reverse-append (x ∷ []) xs))
     (turn-last Back (reverse xs) x b j a (turns-back so xs j b others) (so x a j step))
+
+-- a run goes on by another
+pub turns-append : {Place Content : Type 0} (Step : Place → Content → Content → Type 0) (xs ys : List Place) (first mid last : Content)
+    → InTurn Step xs first mid → InTurn Step ys mid last → InTurn Step (xs ++ ys) first last
+turns-append Step [] ys first mid last e f = subst (λ c. InTurn Step ys c last) (sym e) f
+turns-append Step (x ∷ xs) ys first mid last (next, step, others) f = (next, step, turns-append Step xs ys next mid last others f)

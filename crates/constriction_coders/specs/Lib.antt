@@ -16,6 +16,7 @@ pub mod Published
 pub mod RangeDecoder
 pub mod RangeLaws
 pub mod RangePositions
+pub mod SideBySide
 pub mod Spans
 pub mod StackMessages
 pub mod States

@@ -17,6 +17,7 @@ mod into_decoder;
 pub mod laws;
 mod model_word;
 pub mod queue;
+mod side_by_side;
 pub mod stack;
 mod with_model;
 
@@ -27,3 +28,4 @@ pub use self::decode::{
 pub use self::encode::Encode;
 pub use self::into_decoder::IntoDecoder;
 pub use self::model_word::ModelWord;
+pub use self::side_by_side::{DecodeTwoError, decode_two};
