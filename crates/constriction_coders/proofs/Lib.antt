@@ -16,6 +16,7 @@ pub mod Once
 pub mod PairsComingBack
 pub mod PlacesComingBack
 pub mod Placing
+pub mod PlainBits
 pub mod PublishedWords
 pub mod RangePlacing
 pub mod Reciprocals

@@ -2,9 +2,11 @@
 
 mod ans_coder;
 mod binary;
+mod bits;
 pub mod bits_back;
 mod coding;
 mod compressed;
+mod parts;
 mod positions;
 mod prepared_coding;
 mod prepared_entry;

@@ -68,7 +68,7 @@ pub(crate) fn with_room<Backend: WordStack<u32>, const PRECISION: usize>(
 
 /// The state, which takes a word if it is below `2^32` and there is one.
 #[inline]
-fn refilled<Backend: StackSource<u32>>(
+pub(crate) fn refilled<Backend: StackSource<u32>>(
     words: &mut Backend,
     state: u64,
 ) -> Result<u64, Backend::ReadError>
@@ -126,9 +126,12 @@ impl<Backend: WordStack<u32>> AnsCoder<Backend> {
 impl<Backend: StackSource<u32>> AnsCoder<Backend> {
     ghost use Rattle.constriction_coders.specs.AnsCoder.{held_by};
 
-    /// Takes the symbol of this entry from the top. The entry holds the quantile of the state.
+    /// Takes from the top the symbol that has this left cumulative and weight. The entry holds the
+    /// coder's [`quantile`](Self::quantile).
+    ///
+    /// The error is that of a read. It leaves the state and the words.
     #[inline]
-    pub(crate) fn take_entry<const PRECISION: usize>(
+    pub fn take_entry<const PRECISION: usize>(
         &mut self,
         left: u32,
         weight: u32,
