@@ -106,7 +106,7 @@ pub trait Decode<const PRECISION: usize>: Code {
     ) -> Result<(), CoderError<Self::FrontendError, Self::BackendError>>
     where
         Self: Sized,
-        D: DecoderModel<PRECISION, Probability = u32>,
+        D: DecoderModel<PRECISION, Probability: ModelWord>,
         D::Symbol: Drop,
         requires { can_decode self.old }
         ensures goes_on { can_decode self.new }

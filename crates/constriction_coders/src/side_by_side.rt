@@ -6,6 +6,7 @@ ghost use Rattle.constriction_coders.specs.SideBySide.{OneStops};
 ghost use Rattle.constriction_model.specs.Coding.{InTurn};
 
 use crate::decode::Decode;
+use crate::model_word::ModelWord;
 use constriction_model::DecoderModel;
 use constriction_words::CoderError;
 
@@ -36,7 +37,7 @@ fn decode_both<A, B, D, const PRECISION: usize>(
 where
     A: Decode<PRECISION>,
     B: Decode<PRECISION>,
-    D: DecoderModel<PRECISION, Probability = u32>,
+    D: DecoderModel<PRECISION, Probability: ModelWord>,
     D::Symbol: Drop,
     requires first_can { A.can_decode first_coder.old }
     requires second_can { B.can_decode second_coder.old }
@@ -86,7 +87,7 @@ fn decode_rest<C, D, const PRECISION: usize>(
 ) -> Result<(), CoderError<C::FrontendError, C::BackendError>>
 where
     C: Decode<PRECISION>,
-    D: DecoderModel<PRECISION, Probability = u32>,
+    D: DecoderModel<PRECISION, Probability: ModelWord>,
     D::Symbol: Drop,
     requires can { C.can_decode coder.old }
     requires places { from ≤ length symbols.old }
@@ -130,7 +131,7 @@ pub fn decode_two<A, B, D, const PRECISION: usize>(
 where
     A: Decode<PRECISION>,
     B: Decode<PRECISION>,
-    D: DecoderModel<PRECISION, Probability = u32>,
+    D: DecoderModel<PRECISION, Probability: ModelWord>,
     D::Symbol: Drop,
     requires first_can { A.can_decode first_coder.old }
     requires second_can { B.can_decode second_coder.old }
