@@ -5,6 +5,7 @@ ghost use Rattle.constriction_model.specs.Rows.{Row};
 ghost use Rattle.constriction_adaptive.specs.KnownModels.{first_rows, after_first};
 
 use crate::predictor::Predictor;
+use constriction_coders::ModelWord;
 use constriction_model::{DecoderModel, EncoderModel};
 use std::alloc::AllocError;
 
@@ -21,7 +22,7 @@ pub struct KnownModels<'m, M> {
 
 impl<'m, M, const PRECISION: usize> Predictor<PRECISION> for KnownModels<'m, M>
 where
-    M: EncoderModel<PRECISION, Probability = u32> + DecoderModel<PRECISION>,
+    M: EncoderModel<PRECISION, Probability: ModelWord> + DecoderModel<PRECISION>,
 {
     type Symbol = M::Symbol;
 

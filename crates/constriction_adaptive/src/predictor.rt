@@ -4,6 +4,7 @@ ghost use Rattle.std.specs.Prelude.{◌≡◌, List, OnOk};
 ghost use Rattle.constriction_model.specs.Coding.{StandsForEqual};
 ghost use Rattle.constriction_model.specs.Rows.{Row};
 
+use constriction_coders::ModelWord;
 use constriction_model::{DecoderModel, EncoderModel, EntropyModel};
 use std::alloc::AllocError;
 
@@ -16,7 +17,7 @@ pub trait Predictor<const PRECISION: usize> {
     type Symbol;
 
     /// The model of the next symbol.
-    type Model: EncoderModel<PRECISION, Symbol = Self::Symbol, Probability = u32>
+    type Model: EncoderModel<PRECISION, Symbol = Self::Symbol, Probability: ModelWord>
         + DecoderModel<PRECISION>;
 
     // What a predictor knows.

@@ -9,7 +9,9 @@ ghost use Rattle.constriction_adaptive.specs.Predicted.{predicted_entry, StopsPr
 
 use crate::error::EncoderFrontendError;
 use crate::predictor::Predictor;
+use constriction_coders::ModelWord;
 use constriction_model::EncoderModel;
+use constriction_words::WholeNumber;
 use std::alloc::Global;
 
 /// A left cumulative and a weight.
@@ -18,13 +20,16 @@ pub(crate) type Entry = (u32, u32);
 /// The entry of a symbol.
 fn entry_by_model<E, const PRECISION: usize>(model: &E, symbol: &E::Symbol) -> Option<Entry>
 where
-    E: EncoderModel<PRECISION, Probability = u32>,
+    E: EncoderModel<PRECISION, Probability: ModelWord>,
     ensures known { IfSome result (λ entry.
         IsEntryAt PRECISION (entry_of E.symbol_eq (E.rows model.now)) symbol.now entry) }
     ensures none { result ≡ None → entry_of E.symbol_eq (E.rows model.now) symbol.now ≡ None }
 {
     match model.left_cumulative_and_probability(symbol) {
-        Some((left, weight)) => Some((left, weight.get())),
+        Some((left, weight)) => Some((
+            left.to_coder_word(),
+            E::Probability::from_weight(weight).to_coder_word(),
+        )),
         None => None,
     }
 }

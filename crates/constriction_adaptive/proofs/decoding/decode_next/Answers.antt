@@ -1,5 +1,6 @@
 use Rattle.std.proofs.Common.{Err, List, ap, inl, inr, refl, ◌∙◌, subst}
 use Rattle.constriction_model.specs.Rows.{Row}
+use Rattle.constriction_coders.specs.lemmas.ModelWords.{tiles-wider}
 use Rattle.constriction_adaptive.proofs.Runs.{decoded-in}
 use Rattle.constriction_adaptive.proofs.decoding.decode_next.Goals as goal
 
@@ -11,7 +12,8 @@ returns-in-Ok-decode_symbol-clause-ok g c =
     decoded-in g.P.Predictor.rows g.P.Model.EncoderModel.symbol_eq g.row.PRECISION _ (g.P.Predictor.state c.args.predictor.now)
     (c.model.ensures ∙ ap g.P.Predictor.rows c.reserve.ensures.same)
     (g.C.Decode.is_decoded _ g.P.Model.DecoderModel.stands_for) _ _ _
-    (g.met.P.Model.DecoderModel.tile_law c.model.result.now) c.in-Ok-decode_symbol.ensures.ok
+    (tiles-wider _ 32 g.row.PRECISION _ g.met.P.Model.Probability.ModelWord.width_law
+    (g.met.P.Model.DecoderModel.tile_law c.model.result.now)) c.in-Ok-decode_symbol.ensures.ok
 
 pub returns-in-Err-decode_symbol-clause-err : goal.returns-in-Err-decode_symbol-clause-err
 returns-in-Err-decode_symbol-clause-err g c =
