@@ -240,3 +240,37 @@ where
         → IsMessageFrom (predicted_entry P.rows beq) P.next 16 first (all_bits bytes) words
         → All (λ w. w < 2 ^ 32) more → AreReadFrom P.rows P.next first bytes (words ++ more) }
 {}
+
+/// Decodes `count` bytes from words that are only lent, which may have others after theirs.
+///
+/// Any words have bytes, except that some are refused as `InvalidData`. If the words begin with a
+/// message of as many bytes from the state of the predictor on, these come back. Memory is asked
+/// for as bytes come, so `count` may come from outside.
+pub fn decode_bytes_of<P>(
+    alloc: Global,
+    predictor: &mut P,
+    count: usize,
+    words: &[u32],
+) -> Result<Vec<u8>, DecoderFrontendError>
+where
+    P: Predictor<16, Symbol = bool, Model = Bit>,
+    ensures ok { IfOk result (λ bytes. (first : P.State) → P.state predictor.old ≡ first
+        → AreReadFrom P.rows P.next first bytes.items words.now
+        × (P.state predictor.new ≡ fold P.next first (all_bits bytes.items))) }
+    ensures count { IfOk result (λ bytes. length bytes.items ≡ count) }
+    ensures back { IfOk result (λ again. (first : P.State) (bytes message more : List ℕ)
+        → P.state predictor.old ≡ first → All (λ b. b < 256) bytes → length bytes ≡ count
+        → IsMessageFrom (predicted_entry P.rows beq) P.next 16 first (all_bits bytes) message
+        → All (λ w. w < 2 ^ 32) more → words.now ≡ message ++ more → again.items ≡ bytes) }
+    ensures valid { result ≡ Err DecoderFrontendError.InvalidData
+        → (first : P.State) (bytes : List ℕ) → P.state predictor.old ≡ first
+        → length bytes ≡ count → ¬ (AreReadFrom P.rows P.next first bytes words.now) }
+{
+    message_is_read::<P>();
+    let source = Cursor::new_at_write_beginning(words);
+    match decode_bytes(alloc, predictor, count, source) {
+        Ok(bytes) => Ok(bytes),
+        Err(CoderError::Frontend(error)) => Err(error),
+        Err(CoderError::Backend(never)) => match never {},
+    }
+}

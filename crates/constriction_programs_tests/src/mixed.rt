@@ -10,15 +10,13 @@ ghost use Rattle.constriction_adaptive.specs.Mixer.{mixer_after, mixer_begun, mi
 ghost use Rattle.constriction_adaptive.specs.Predicted.{predicted_entry};
 
 use crate::checks::{holds, same};
-use constriction::CoderError;
 use constriction::backends::Cursor;
 use constriction_adaptive::bytes::{
-    bytes_are_read_once, bytes_come_back, decode_bytes, encode_bytes,
+    bytes_are_read_once, bytes_come_back, decode_bytes, decode_bytes_of, encode_bytes,
 };
 use constriction_adaptive::{Mixer, OrderOne, Predictor};
 use constriction_coders::queue::DecoderFrontendError;
 use std::alloc::{AllocError, Global};
-use std::convert::Infallible;
 
 /// The words of bytes, from which these bytes are read.
 fn encoded_by_a_mixer(alloc: Global, bytes: &[u8]) -> Result<Vec<u32>, AllocError>
@@ -32,43 +30,35 @@ fn encoded_by_a_mixer(alloc: Global, bytes: &[u8]) -> Result<Vec<u32>, AllocErro
     encode_bytes(alloc, &mut mixer, bytes)
 }
 
-/// The bytes that are read from words.
+/// The bytes that are read from words which were only lent.
 fn decoded_by_a_mixer(
     alloc: Global,
     count: usize,
-    words: Vec<u32>,
-) -> Result<Vec<u8>, CoderError<DecoderFrontendError, Infallible>>
+    words: &[u32],
+) -> Result<Vec<u8>, DecoderFrontendError>
     ensures read { IfOk result (λ bytes. AreReadFrom mixer_rows mixer_after
-        (mixer_begun (1 ∷ 3 ∷ 0 ∷ []) 262144 4194304 6) bytes.items words.items) }
+        (mixer_begun (1 ∷ 3 ∷ 0 ∷ []) 262144 4194304 6) bytes.items words.now) }
     ensures count { IfOk result (λ bytes. length bytes.items ≡ count) }
-    ensures valid { result ≡ Err (CoderError.Frontend DecoderFrontendError.InvalidData)
-        → (bytes : List ℕ) → length bytes ≡ count → ¬ (AreReadFrom mixer_rows mixer_after
-        (mixer_begun (1 ∷ 3 ∷ 0 ∷ []) 262144 4194304 6) bytes words.items) }
+    ensures valid { result ≡ Err DecoderFrontendError.InvalidData → (bytes : List ℕ)
+        → length bytes ≡ count → ¬ (AreReadFrom mixer_rows mixer_after
+        (mixer_begun (1 ∷ 3 ∷ 0 ∷ []) 262144 4194304 6) bytes words.now) }
 {
     let Ok(mut mixer) = Mixer::<3>::new(alloc, [1, 3, 0], 262_144, 4_194_304, 6) else {
-        return Err(CoderError::Frontend(DecoderFrontendError::OutOfMemory));
+        return Err(DecoderFrontendError::OutOfMemory);
     };
-    decode_bytes(
-        alloc,
-        &mut mixer,
-        count,
-        Cursor::new_at_write_beginning(words),
-    )
+    decode_bytes_of(alloc, &mut mixer, count, words)
 }
 
 /// Encodes bytes and decodes as many. It fails only if memory is refused.
-fn by_a_mixer(
-    alloc: Global,
-    bytes: &[u8],
-) -> Result<Vec<u8>, CoderError<DecoderFrontendError, Infallible>>
+fn by_a_mixer(alloc: Global, bytes: &[u8]) -> Result<Vec<u8>, DecoderFrontendError>
     ensures back { IfOk result (λ answers. answers.items ≡ bytes.now) }
-    ensures valid { result ≢ Err (CoderError.Frontend DecoderFrontendError.InvalidData) }
+    ensures valid { result ≢ Err DecoderFrontendError.InvalidData }
 {
     bytes_are_read_once::<Mixer<3>>();
     let Ok(words) = encoded_by_a_mixer(alloc, bytes) else {
-        return Err(CoderError::Frontend(DecoderFrontendError::OutOfMemory));
+        return Err(DecoderFrontendError::OutOfMemory);
     };
-    decoded_by_a_mixer(alloc, bytes.len(), words)
+    decoded_by_a_mixer(alloc, bytes.len(), &words)
 }
 
 /// Encodes bytes and decodes as many, by the byte before, in one call. Both predictors learn all

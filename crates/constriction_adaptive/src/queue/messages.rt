@@ -111,6 +111,47 @@ where
     }
 }
 
+/// Decodes a message of `count` symbols from words that are only lent, which may have others after
+/// it.
+///
+/// If the words begin with those of as many symbols from the state of the predictor on, these come
+/// back, and the words are not invalid. Memory for all symbols is asked for first.
+pub fn decode_message_of<P, const PRECISION: usize>(
+    alloc: Global,
+    predictor: &mut P,
+    count: usize,
+    words: &[u32],
+) -> Result<Vec<P::Symbol>, DecoderFrontendError>
+where
+    P: Predictor<PRECISION>,
+    P::Symbol: Drop,
+    ensures back { IfOk result (λ answers. (first : P.State) (symbols : List P.Symbol)
+        (message more : List ℕ) → P.state predictor.old ≡ first → length symbols ≡ count
+        → IsMessageFrom (predicted_entry P.rows P.Model.symbol_eq) P.next PRECISION first symbols
+        message → All (λ w. w < 2 ^ 32) more → words.now ≡ message ++ more
+        → AllZip (StandsForEqual P.Model.stands_for P.Model.symbol_eq) symbols answers.items
+        × (P.state predictor.new ≡ fold P.next first symbols)) }
+    // As of numbers, which stand for themselves alone.
+    ensures same { IfOk result (λ answers.
+        ((s t : P.Symbol) → StandsForEqual P.Model.stands_for P.Model.symbol_eq s t → t ≡ s)
+        → (first : P.State) (symbols : List P.Symbol) (message more : List ℕ)
+        → P.state predictor.old ≡ first → length symbols ≡ count
+        → IsMessageFrom (predicted_entry P.rows P.Model.symbol_eq) P.next PRECISION first symbols
+        message → All (λ w. w < 2 ^ 32) more → words.now ≡ message ++ more → answers.items ≡ symbols) }
+    ensures valid { result ≡ Err DecoderFrontendError.InvalidData
+        → (first : P.State) (symbols : List P.Symbol) (message more : List ℕ)
+        → P.state predictor.old ≡ first → length symbols ≡ count
+        → IsMessageFrom (predicted_entry P.rows P.Model.symbol_eq) P.next PRECISION first symbols
+        message → All (λ w. w < 2 ^ 32) more → ¬ (words.now ≡ message ++ more) }
+{
+    let source = Cursor::new_at_write_beginning(words);
+    match decode_message(alloc, predictor, count, source) {
+        Ok(answers) => Ok(answers),
+        Err(CoderError::Frontend(error)) => Err(error),
+        Err(CoderError::Backend(never)) => match never {},
+    }
+}
+
 /// Encodes the symbols and decodes as many. If both predictors begin in one state, the symbols come
 /// back, whatever is predicted, and both end in one state.
 pub fn message_comes_back<P, const PRECISION: usize>(
