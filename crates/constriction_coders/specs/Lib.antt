@@ -2,6 +2,7 @@ pub mod AnsCoder
 pub mod BitsBack
 pub mod Bytes
 pub mod Compressed
+pub mod CompressedWords
 pub mod Counts
 pub mod Decoding
 pub mod EncodedWords

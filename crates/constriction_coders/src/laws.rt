@@ -3,10 +3,12 @@
 use thiserror::Error;
 
 mod any;
+mod plain_bits;
 mod queue;
 mod stack;
 
 pub use self::any::ComesBack;
+pub use self::plain_bits::plain_bits_come_back;
 pub use self::queue::{
     message_comes_back, message_from, message_of, one_message, published_message,
     range_pairs_come_back, range_place_comes_back, range_places_come_back, range_symbols_come_back,

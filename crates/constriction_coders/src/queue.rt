@@ -4,6 +4,7 @@ mod carrying;
 mod decoding;
 mod encoded_words;
 mod interval;
+mod parts;
 mod positions;
 mod range_decoder;
 mod range_encoder;

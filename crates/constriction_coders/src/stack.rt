@@ -6,6 +6,7 @@ mod bits;
 pub mod bits_back;
 mod coding;
 mod compressed;
+mod iter_compressed;
 mod parts;
 mod positions;
 mod prepared_coding;
@@ -16,5 +17,6 @@ mod state;
 
 pub use self::ans_coder::AnsCoder;
 pub use self::coding::StackContent;
+pub use self::iter_compressed::CompressedWords;
 pub use self::prepared_entry::PreparedEntry;
 pub use self::prepared_model::PreparedModel;
