@@ -1,0 +1,3 @@
+pub mod ModelRows
+pub mod Table
+pub mod lemmas

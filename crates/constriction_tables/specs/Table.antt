@@ -1,0 +1,44 @@
+-- Tables that have the row of each quantile, and entries by the number of a symbol.
+use Rattle.std.specs.Prelude.{◌≡◌, ℕ, ◌+◌, Bool, cond, nat_eq, List, [], ◌∷◌, ◌++◌, map, replicate, Option, Some, None, slice_index_or}
+use Rattle.constriction_model.specs.Acceptance.{IsAccepted}
+use Rattle.constriction_model.specs.Rows.{Row, entry_of, rows_of, symbols_of}
+
+-- each row as often as it has quantiles
+abbrev pub spread : {Symbol : Type 0} → List (Row Symbol) → List (Row Symbol)
+spread [] = []
+spread (r ∷ rs) = replicate r.weight r ++ spread rs
+
+-- the rows that stand where they begin, in a table whose first place is the quantile q
+abbrev pub rows_begun : {Symbol : Type 0} → ℕ → List (Row Symbol) → List (Row Symbol)
+rows_begun q [] = []
+rows_begun q (r ∷ rs) = cond (nat_eq r.left q) (r ∷ rows_begun (q + 1) rs) (rows_begun (q + 1) rs)
+
+-- the rows of a table: those that stand where they begin
+abbrev pub rows_in_table : {Symbol : Type 0} → List (Row Symbol) → List (Row Symbol)
+rows_in_table table = rows_begun 0 table
+
+-- the entry that a left cumulative and a weight are: none if the weight is 0
+abbrev pub entry_by : ℕ × ℕ → Option (ℕ × ℕ)
+entry_by e = cond (nat_eq e.1 0) None (Some (e.0, e.1))
+
+-- ---- symbols with numbers: no two have the same one
+
+module _ {Symbol : Type 0} (number : Symbol → ℕ) where
+  -- symbols are equal if their numbers are
+  abbrev pub same_number : Symbol → Symbol → Bool
+  same_number s t = nat_eq (number s) (number t)
+
+  -- the rows with the number of each symbol in its place
+  abbrev pub numbered : List (Row Symbol) → List (Row ℕ)
+  numbered rows = map (λ r. record { symbol = number r.symbol; left = r.left; weight = r.weight }) rows
+
+  -- a table has the row of each quantile: its rows tile, and each stands at each of its quantiles
+  pub record IsTable (bits precision : ℕ) (table : List (Row Symbol)) : Type 0 where
+    pub accepted : IsAccepted bits precision (map (λ r. r.weight) (rows_in_table table))
+    pub in_order : numbered (rows_in_table table)
+        ≡ numbered (rows_of (symbols_of (rows_in_table table)) (map (λ r. r.weight) (rows_in_table table)))
+    pub each : numbered table ≡ numbered (spread (rows_in_table table))
+
+  -- a list has the entry of each symbol at the symbol's number, and none at the number of another one, or it ends before that
+  abbrev pub HasEntries : List (ℕ × ℕ) → List (Row Symbol) → Type 0
+  HasEntries list rows = (s : Symbol) → entry_by (slice_index_or list (number s) (0, 0)) ≡ entry_of same_number rows s

@@ -1,0 +1,13 @@
+//! An entropy model with one entry for each quantile, so that a look-up is one load.
+//!
+//! An entry holds the whole row of its quantile in one word: symbol, left cumulative and weight. A
+//! second, small list has the left cumulative and the weight of each symbol, so one model serves
+//! decoders and encoders.
+#![tactic(auto)]
+
+mod entry;
+mod model;
+mod words;
+
+pub use crate::entry::TableEntry;
+pub use crate::model::{DirectTableModel, SmallDirectTableModel, WideDirectTableModel};

@@ -1,0 +1,105 @@
+//! The model, and what it answers.
+
+ghost use Rattle.std.specs.Prelude.{◌≡◌, ◌^◌, ◌≤◌, length, map, slice_index_or};
+ghost use Rattle.std.specs.List.{IsDistinct};
+ghost use Rattle.std.proofs.Props.{props};
+ghost use Rattle.constriction_model.specs.Precision.{IsPrecision};
+ghost use Rattle.constriction_model.specs.Rows.{symbols_of};
+ghost use Rattle.constriction_model.specs.lemmas.Coding.{rows-within};
+ghost use Rattle.constriction_tables.specs.Table.{HasEntries, IsTable, rows_in_table, same_number};
+ghost use Rattle.constriction_tables.specs.lemmas.Tables.{same_number-equivalence, table-tiles};
+
+use crate::entry::TableEntry;
+use constriction_model::{DecoderModel, EncoderModel, EntropyModel, Weight};
+use constriction_numbers::WholeNumber;
+use std::alloc::AllocError;
+
+/// A model of symbols that are small numbers, with one entry for each quantile.
+///
+/// An entry is one word, which holds the row of its quantile, so [`DecoderModel::quantile_function`]
+/// is one load and shifts. A list of left cumulatives and weights by the numbers of symbols serves
+/// encoders.
+#[derive(Drop)]
+pub struct DirectTableModel<Entry: TableEntry, const PRECISION: usize> {
+    entries: Vec<Entry>,
+    by_symbol: Vec<(u32, u32)>,
+    ghost precise: { IsPrecision 32 PRECISION },
+    ghost narrow: { PRECISION ≤ Entry.ROW_BITS },
+    ghost full: { length entries.items ≡ 2 ^ PRECISION },
+    ghost table: { IsTable Entry.number 32 PRECISION (map Entry.row_in entries.items) },
+    ghost coded: { HasEntries Entry.number by_symbol.items
+        (rows_in_table (map Entry.row_in entries.items)) } by { Prim.hlevel props },
+    ghost distinct: { IsDistinct (same_number Entry.number)
+        (symbols_of (rows_in_table (map Entry.row_in entries.items))) } by { Prim.hlevel props },
+}
+
+/// Over 12 bits of `u32`, for the 256 symbols of `u8`: 16 KiB.
+pub type SmallDirectTableModel = DirectTableModel<u32, 12>;
+
+/// Over 16 bits of `u64`, for the 65,536 symbols of `u16`: 512 KiB.
+pub type WideDirectTableModel = DirectTableModel<u64, 16>;
+
+/// What a list has at an index, or two zeros past its end.
+#[inline]
+fn entry_at(list: &[(u32, u32)], index: usize) -> (u32, u32)
+    ensures { result ≡ slice_index_or list.now index (0, 0) }
+{
+    match list.get(index) {
+        Some(entry) => *entry,
+        None => (0, 0),
+    }
+}
+
+impl<Entry: TableEntry, const PRECISION: usize> EntropyModel<PRECISION>
+    for DirectTableModel<Entry, PRECISION> {
+    type Symbol = Entry::Symbol;
+
+    type Probability = u32;
+
+    ghost use Rattle.constriction_tables.specs.ModelRows.{table_model_rows};
+
+    ghost rows = { table_model_rows };
+
+    ghost precision_law = { λ m. m.precise };
+}
+
+impl<Entry: TableEntry, const PRECISION: usize> EncoderModel<PRECISION>
+    for DirectTableModel<Entry, PRECISION> {
+    ghost symbol_eq = { same_number Entry.number };
+
+    #[inline]
+    fn left_cumulative_and_probability(
+        &self,
+        symbol: &Entry::Symbol,
+    ) -> Option<(u32, Weight<u32>)> {
+        let (left, weight) = entry_at(&self.by_symbol, Entry::to_index(*symbol));
+        if weight == 0 {
+            return None;
+        }
+        Some((left, weight.to_weight()))
+    }
+
+    ghost equality_law = { same_number-equivalence Entry.number Entry.same_law };
+
+    ghost within_law = { λ m.
+        rows-within 32 _ _ (table-tiles Entry.number Entry.same_law 32 _ _ m.table) };
+}
+
+impl<Entry: TableEntry, const PRECISION: usize> DecoderModel<PRECISION>
+    for DirectTableModel<Entry, PRECISION> {
+    /// The row of a quantile: one load, and shifts. It takes no memory and always succeeds.
+    #[inline(always)]
+    fn quantile_function(
+        &self,
+        quantile: u32,
+    ) -> Result<(Entry::Symbol, u32, Weight<u32>), AllocError> {
+        let entry = self.entries[quantile as usize];
+        Ok((
+            entry.symbol(),
+            entry.left_cumulative(),
+            entry.weight().to_weight(),
+        ))
+    }
+
+    ghost tile_law = { λ m. table-tiles Entry.number Entry.same_law 32 _ _ m.table };
+}

@@ -1,0 +1,4 @@
+//! The words that hold a row.
+
+mod u32;
+mod u64;
