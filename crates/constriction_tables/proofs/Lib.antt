@@ -1,1 +1,2 @@
+pub mod Partials
 pub mod Reading

@@ -1,3 +1,4 @@
 pub mod ModelRows
 pub mod Table
 pub mod lemmas
+pub mod private

@@ -49,7 +49,8 @@ pub trait TableEntry: Copy {
 
     /// The number of a symbol, as an index.
     fn to_index(symbol: Self::Symbol) -> usize
-        ensures { result ≡ number symbol };
+        ensures value { result ≡ number symbol }
+        ensures small { result < 65536 };
 
     /// The symbol of a number.
     fn from_index(index: usize) -> Self::Symbol

@@ -6,7 +6,9 @@
 #![tactic(auto)]
 
 mod entry;
+mod making;
 mod model;
+mod partial;
 mod words;
 
 pub use crate::entry::TableEntry;

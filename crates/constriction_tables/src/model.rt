@@ -1,6 +1,6 @@
 //! The model, and what it answers.
 
-ghost use Rattle.std.specs.Prelude.{◌≡◌, ◌^◌, ◌≤◌, length, map, slice_index_or};
+ghost use Rattle.std.specs.Prelude.{◌≡◌, ◌^◌, ◌≤◌, length, map};
 ghost use Rattle.std.specs.List.{IsDistinct};
 ghost use Rattle.std.proofs.Props.{props};
 ghost use Rattle.constriction_model.specs.Precision.{IsPrecision};
@@ -10,6 +10,7 @@ ghost use Rattle.constriction_tables.specs.Table.{HasEntries, IsTable, rows_in_t
 ghost use Rattle.constriction_tables.specs.lemmas.Tables.{same_number-equivalence, table-tiles};
 
 use crate::entry::TableEntry;
+use crate::partial::entry_at;
 use constriction_model::{DecoderModel, EncoderModel, EntropyModel, Weight};
 use constriction_numbers::WholeNumber;
 use std::alloc::AllocError;
@@ -21,8 +22,8 @@ use std::alloc::AllocError;
 /// encoders.
 #[derive(Drop)]
 pub struct DirectTableModel<Entry: TableEntry, const PRECISION: usize> {
-    entries: Vec<Entry>,
-    by_symbol: Vec<(u32, u32)>,
+    pub(crate) entries: Vec<Entry>,
+    pub(crate) by_symbol: Vec<(u32, u32)>,
     ghost precise: { IsPrecision 32 PRECISION },
     ghost narrow: { PRECISION ≤ Entry.ROW_BITS },
     ghost full: { length entries.items ≡ 2 ^ PRECISION },
@@ -38,17 +39,6 @@ pub type SmallDirectTableModel = DirectTableModel<u32, 12>;
 
 /// Over 16 bits of `u64`, for the 65,536 symbols of `u16`: 512 KiB.
 pub type WideDirectTableModel = DirectTableModel<u64, 16>;
-
-/// What a list has at an index, or two zeros past its end.
-#[inline]
-fn entry_at(list: &[(u32, u32)], index: usize) -> (u32, u32)
-    ensures { result ≡ slice_index_or list.now index (0, 0) }
-{
-    match list.get(index) {
-        Some(entry) => *entry,
-        None => (0, 0),
-    }
-}
 
 impl<Entry: TableEntry, const PRECISION: usize> EntropyModel<PRECISION>
     for DirectTableModel<Entry, PRECISION> {

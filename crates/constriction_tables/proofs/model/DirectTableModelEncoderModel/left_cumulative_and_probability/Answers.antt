@@ -16,7 +16,7 @@ returns-clause-within g c =
     let entry = c.entry_at-left.result in
     let within = rows-within 32 _ _ (table-tiles number g.met.Entry.TableEntry.same_law 32 _ _ m.table) in
     let listed : Some entry ≡ entry_of (same_number number) rows c.args.symbol.now =
-    entry-listed number m.by_symbol.items rows m.coded c.args.symbol.now c.to_index.result entry c.to_index.ensures
+    entry-listed number m.by_symbol.items rows m.coded c.args.symbol.now c.to_index.result entry c.to_index.ensures.value
     (c.entry_at-left.ensures ∙ ap (λ xs. slice_index_or xs c.to_index.result (0, 0)) c.deref.ensures.value) c.if-weight-eq0.false in
     let positive = entry-positive g.row.PRECISION (same_number number) rows c.args.symbol.now entry listed within in
     let ends = entry-within g.row.PRECISION (same_number number) rows c.args.symbol.now entry listed within in
