@@ -1,2 +1,3 @@
+pub mod ByNumber
 pub mod Partials
 pub mod Reading

@@ -1,5 +1,6 @@
 -- Tables that have the row of each quantile, and entries by the number of a symbol.
-use Rattle.std.specs.Prelude.{◌≡◌, ℕ, ◌+◌, Bool, cond, nat_eq, List, [], ◌∷◌, ◌++◌, map, replicate, Option, Some, None, slice_index_or}
+use Rattle.std.specs.Prelude.{◌≡◌, ℕ, ◌+◌, Bool, cond, nat_eq, nat_lt, List, [], ◌∷◌, ◌++◌, length, map, replicate, Option, Some, None, slice_index_or}
+use Rattle.std.specs.List.{filter, range_with_len}
 use Rattle.constriction_model.specs.Acceptance.{IsAccepted}
 use Rattle.constriction_model.specs.Rows.{Row, entry_of, rows_of, symbols_of}
 
@@ -16,6 +17,14 @@ rows_begun q (r ∷ rs) = cond (nat_eq r.left q) (r ∷ rows_begun (q + 1) rs) (
 -- the rows of a table: those that stand where they begin
 abbrev pub rows_in_table : {Symbol : Type 0} → List (Row Symbol) → List (Row Symbol)
 rows_in_table table = rows_begun 0 table
+
+-- the symbols of the numbers 0, 1, ..
+abbrev pub first_symbols : {Symbol : Type 0} → (ℕ → Symbol) → ℕ → List Symbol
+first_symbols symbol_of n = map symbol_of (range_with_len 0 n)
+
+-- the rows of weights for the symbols of the numbers 0, 1, .., without those of weight 0
+abbrev pub weighted_rows : {Symbol : Type 0} → (ℕ → Symbol) → List ℕ → List (Row Symbol)
+weighted_rows symbol_of weights = filter (λ r. nat_lt 0 r.weight) (rows_of (first_symbols symbol_of (length weights)) weights)
 
 -- the entry that a left cumulative and a weight are: none if the weight is 0
 abbrev pub entry_by : ℕ × ℕ → Option (ℕ × ℕ)

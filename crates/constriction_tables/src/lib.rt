@@ -5,6 +5,7 @@
 //! decoders and encoders.
 #![tactic(auto)]
 
+mod by_number;
 mod entry;
 mod making;
 mod model;
