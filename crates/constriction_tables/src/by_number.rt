@@ -16,7 +16,7 @@ use std::alloc::Global;
 
 /// How many quantiles there are.
 #[inline]
-fn quantiles<Entry: TableEntry, const PRECISION: usize>() -> u32
+pub(crate) fn quantiles<Entry: TableEntry, const PRECISION: usize>() -> u32
     requires { IsPrecision Entry.ROW_BITS PRECISION }
     ensures value { result ≡ 2 ^ PRECISION }
     ensures small { result ≤ 65536 }

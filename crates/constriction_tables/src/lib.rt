@@ -6,6 +6,7 @@
 #![tactic(auto)]
 
 mod by_number;
+mod by_symbol;
 mod entry;
 mod making;
 mod model;
