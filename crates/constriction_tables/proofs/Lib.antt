@@ -1,3 +1,4 @@
 pub mod ByNumber
 pub mod Partials
 pub mod Reading
+pub mod Walking

@@ -27,7 +27,7 @@ entry-listed number list rows all s k e at is some =
     sym listed ∙ ap entry_by (is ∙ ap (λ n. slice_index_or list n (0, 0)) at) ∙ all s
 
 -- a row is its three parts
-row-made : {S : Type 0} (r : Row S) (s : S) (l w : ℕ) → s ≡ r.symbol → l ≡ r.left → w ≡ r.weight
+pub row-made : {S : Type 0} (r : Row S) (s : S) (l w : ℕ) → s ≡ r.symbol → l ≡ r.left → w ≡ r.weight
     → r ≡ record { symbol = s; left = l; weight = w }
 row-made r s l w es el ew =
     ap (λ x. record { symbol = x; left = r.left; weight = r.weight }) (sym es)

@@ -1,8 +1,8 @@
 -- Tables that have the row of each quantile, and entries by the number of a symbol.
-use Rattle.std.specs.Prelude.{◌≡◌, ℕ, ◌+◌, Bool, cond, nat_eq, nat_lt, List, [], ◌∷◌, ◌++◌, length, map, replicate, Option, Some, None, slice_index_or}
+use Rattle.std.specs.Prelude.{◌≡◌, ℕ, ◌+◌, ◌<◌, Bool, cond, nat_eq, nat_lt, List, [], ◌∷◌, ◌++◌, All, drop, length, map, replicate, Option, Some, None, slice_index_or}
 use Rattle.std.specs.List.{filter, range_with_len}
 use Rattle.constriction_model.specs.Acceptance.{IsAccepted}
-use Rattle.constriction_model.specs.Rows.{Row, entry_of, rows_of, symbols_of}
+use Rattle.constriction_model.specs.Rows.{Row, entry_of, rows_from, rows_of, symbols_of}
 
 -- each row as often as it has quantiles
 abbrev pub spread : {Symbol : Type 0} → List (Row Symbol) → List (Row Symbol)
@@ -17,6 +17,10 @@ rows_begun q (r ∷ rs) = cond (nat_eq r.left q) (r ∷ rows_begun (q + 1) rs) (
 -- the rows of a table: those that stand where they begin
 abbrev pub rows_in_table : {Symbol : Type 0} → List (Row Symbol) → List (Row Symbol)
 rows_in_table table = rows_begun 0 table
+
+-- the rows that stand where they begin, at the quantile q or after it
+abbrev pub rows_after : {Symbol : Type 0} → ℕ → List (Row Symbol) → List (Row Symbol)
+rows_after q table = rows_begun q (drop q table)
 
 -- the symbols of the numbers 0, 1, ..
 abbrev pub first_symbols : {Symbol : Type 0} → (ℕ → Symbol) → ℕ → List Symbol
@@ -47,6 +51,13 @@ module _ {Symbol : Type 0} (number : Symbol → ℕ) where
     pub in_order : numbered (rows_in_table table)
         ≡ numbered (rows_of (symbols_of (rows_in_table table)) (map (λ r. r.weight) (rows_in_table table)))
     pub each : numbered table ≡ numbered (spread (rows_in_table table))
+
+  -- these places, of which the first is the quantile q, have each row at each of its quantiles
+  pub record StandsFrom (q : ℕ) (places : List (Row Symbol)) : Type 0 where
+    pub positive : All (λ w. 0 < w) (map (λ r. r.weight) (rows_begun q places))
+    pub in_order : numbered (rows_begun q places)
+        ≡ numbered (rows_from q (symbols_of (rows_begun q places)) (map (λ r. r.weight) (rows_begun q places)))
+    pub each : numbered places ≡ numbered (spread (rows_begun q places))
 
   -- a list has the entry of each symbol at the symbol's number, and none at the number of another one, or it ends before that
   abbrev pub HasEntries : List (ℕ × ℕ) → List (Row Symbol) → Type 0

@@ -11,7 +11,9 @@ mod entry;
 mod making;
 mod model;
 mod partial;
+mod symbol_table;
 mod words;
 
 pub use crate::entry::TableEntry;
+pub use crate::symbol_table::DirectSymbolTable;
 pub use crate::model::{DirectTableModel, SmallDirectTableModel, WideDirectTableModel};
