@@ -1,3 +1,4 @@
+pub mod ByModel
 pub mod ByNumber
 pub mod Partials
 pub mod Reading

@@ -5,6 +5,7 @@
 //! decoders and encoders.
 #![tactic(auto)]
 
+mod by_model;
 mod by_number;
 mod by_symbol;
 mod entry;
