@@ -1,1 +1,5 @@
+pub mod BitsLemmas
+pub mod EntriesLemmas
+pub mod NumbersLemmas
 pub mod StoredWeightsLemmas
+pub mod TablesLemmas

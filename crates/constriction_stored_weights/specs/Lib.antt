@@ -1,1 +1,4 @@
+pub mod Bits
 pub mod StoredWeights
+pub mod Tables
+pub mod private

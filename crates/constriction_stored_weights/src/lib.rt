@@ -1,4 +1,5 @@
-//! Stored weights: the number of weights and then the weights, as words.
+//! Stored weights: the number of weights and then the weights, as words; a table of weights as a few
+//! bytes.
 #![tactic(auto)]
 
 ghost use Rattle.std.specs.Prelude.{◌≡◌, ◌≢◌, [], ◌∷◌, ◌++◌, ◌+◌, ◌*◌, ◌^◌, ◌≤◌, length, map, Err, IfOk, IfErr, OnOk, vec_capacity};
@@ -9,6 +10,13 @@ ghost use Rattle.constriction.specs.Rows.{rows_of, symbols_of};
 ghost use Rattle.constriction.specs.Precision.{IsPrecision};
 ghost use Rattle.constriction_stored_weights.specs.StoredWeights.{ReadsModel, ReadsWeights, StopsReadingWeights, StopsWritingWeights, WritesWeights};
 
+mod entries;
+mod places;
+mod reading;
+mod table_errors;
+mod tables;
+mod writing;
+
 use constriction::backends::{Cursor, ReadWords, ReadWriteError, WriteWords};
 use constriction::stream::model::{
     IterableEntropyModel, ModelError, NonContiguousCategoricalDecoderModel,
@@ -16,6 +24,8 @@ use constriction::stream::model::{
 use constriction::{CoderError, Queue};
 use std::alloc::{AllocError, Global};
 use std::convert::Infallible;
+pub use table_errors::{TableReadingError, TableWritingError};
+pub use tables::{read_table, table_comes_back, tables_have_one_text, write_table};
 use thiserror::Error;
 
 /// Why no model was read.
