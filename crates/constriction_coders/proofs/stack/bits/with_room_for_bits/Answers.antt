@@ -1,6 +1,5 @@
-use Rattle.std.proofs.Common.{◌-◌, ◌*◌, ◌^◌, ◌<◌, ◌≤◌, ◌/◌, arith, inl, inr}
-use Rattle.std.proofs.lemmas.Bool.{cases_lt}
-use Rattle.constriction_coders.proofs.States.{room_after, least_after, full_is, not_full_is}
+use Rattle.std.proofs.Common.{◌-◌, ◌*◌, ◌^◌, ◌≤◌, arith, inr}
+use Rattle.constriction_coders.proofs.States.{room_after, least_after, full_is}
 use Rattle.constriction_coders.proofs.Steps.{refills-back}
 use Rattle.constriction_coders.proofs.stack.bits.with_room_for_bits.Goals as goal
 

@@ -1,11 +1,13 @@
-use Rattle.std.proofs.Common.{sym}
+use Rattle.std.proofs.Common.{sym, arith}
 use Rattle.constriction_model.specs.lemmas.Coding.{entry-within}
 use Rattle.constriction_model.specs.Rows.{entry_of}
 use Rattle.constriction_coders.proofs.stack.ans_coder.AnsCoder.encode_prepared_symbol.Goals as goal
 
 pub put_prepared_entry-requires : goal.put_prepared_entry-requires
 put_prepared_entry-requires g c = record {
-  precision = g.met.M.EntropyModel.precision_law c.args.model.now;
+  precision =
+      let law = g.met.M.EntropyModel.precision_law c.args.model.now in
+      record { positive = law.positive; fits = omega (arith, law.fits, g.met.M.Probability.ModelWord.width_law) };
   within =
       entry-within g.row.PRECISION g.M.EncoderModel.symbol_eq (g.M.EntropyModel.rows c.args.model.now) c.args.symbol.now
       (c.in-Some.entry.left, c.in-Some.entry.weight) c.in-Some.ensures (g.met.M.EncoderModel.within_law c.args.model.now);
