@@ -1,10 +1,10 @@
 -- Bits of numbers and bytes: at either end, apart, and as zeros.
-use Rattle.std.proofs.Common.{◌≡◌, ℕ, zero, suc, ◌+◌, ◌*◌, ◌/◌, ◌%◌, ◌^◌, ◌<◌, List, [], ◌∷◌, ◌++◌, length, replicate, drop, take, refl, sym, ap, ◌∙◌, arith, append-nil, append_assoc, length-append, add-one, add-zero, zero-add, pow-suc}
+use Rattle.std.proofs.Common.{◌-◌, ◌≡◌, ℕ, zero, suc, ◌+◌, ◌*◌, ◌/◌, ◌%◌, ◌^◌, ◌<◌, List, [], ◌∷◌, ◌++◌, length, replicate, drop, take, refl, sym, ap, ◌∙◌, arith, append-nil, append_assoc, length-append, add-one, add-zero, zero-add, pow-suc, mul-le-mul_right, ◌≤◌}
 use Rattle.std.specs.List.{All}
 use Rattle.std.proofs.lemmas.List.{take_at, drop_at, replicate_more, same_from_push, length_push}
 use Rattle.std.proofs.lemmas.List.Elements.{All-head, All-tail}
 use Rattle.std.proofs.lemmas.List.Concat.{flat_map-append}
-use Rattle.std.proofs.lemmas.Nat.{shr-shr, shl-shr, shr_split}
+use Rattle.std.proofs.lemmas.Nat.{shr-shr, shl-shr, shr_split, pow_pos}
 use Rattle.constriction_stored_weights.specs.Bits.{bits, bits_of_bytes}
 use Rattle.constriction_stored_weights.specs.private.Places.{Extends}
 
@@ -84,6 +84,21 @@ bits-shifted count n (suc zeros) =
     ap (λ k. bits k (n * 2 ^ suc zeros)) one ∙ ap (bits (count + zeros + 1)) twice ∙ bits-more (count + zeros) (n * 2 ^ zeros) 0 (omega arith)
     ∙ ap (λ xs. xs ++ 0 ∷ []) (bits-shifted count n zeros) ∙ append_assoc (bits count n) (replicate zeros 0) (0 ∷ [])
     ∙ ap (λ xs. bits count n ++ xs) (replicate_more zeros 0 ∙ ap (λ k. replicate k 0) (add-one zeros))
+
+-- bits of ones below a number
+pub bits-ones : (count n ones : ℕ) → bits (count + ones) ((n + 1) * 2 ^ ones - 1) ≡ bits count n ++ replicate ones 1
+bits-ones count n zero =
+    let same : (n + 1) * 2 ^ 0 - 1 ≡ n = omega arith in
+    ap (λ k. bits k ((n + 1) * 2 ^ 0 - 1)) (add-zero count) ∙ ap (bits count) same ∙ sym (append-nil (bits count n))
+bits-ones count n (suc ones) =
+    let some : 0 < 2 ^ ones = pow_pos ones in
+    let least : 1 * 2 ^ ones ≤ (n + 1) * 2 ^ ones = mul-le-mul_right (2 ^ ones) (omega arith) in
+    let twice : (n + 1) * 2 ^ suc ones - 1 ≡ 2 * ((n + 1) * 2 ^ ones - 1) + 1 = omega (arith, ap (λ k. (n + 1) * k) (pow-suc 2 ones)) in
+    let one : count + suc ones ≡ count + ones + 1 = omega arith in
+    ap (λ k. bits k ((n + 1) * 2 ^ suc ones - 1)) one ∙ ap (bits (count + ones + 1)) twice
+    ∙ bits-more (count + ones) ((n + 1) * 2 ^ ones - 1) 1 (omega arith) ∙ ap (λ xs. xs ++ 1 ∷ []) (bits-ones count n ones)
+    ∙ append_assoc (bits count n) (replicate ones 1) (1 ∷ [])
+    ∙ ap (λ xs. bits count n ++ xs) (replicate_more ones 1 ∙ ap (λ k. replicate k 1) (add-one ones))
 
 -- the lowest bits are zeros if nothing is left when they are taken off
 pub zero_bits : (count n : ℕ) → n % 2 ^ count ≡ 0 → bits count n ≡ replicate count 0

@@ -6,7 +6,7 @@ use Rattle.std.proofs.lemmas.List.{length-replicate, nil_from_length}
 use Rattle.std.proofs.lemmas.List.Sums.{sum_by-append, sum_by-cons}
 use Rattle.std.proofs.lemmas.List.Folds.{sum_by-replicate}
 use Rattle.constriction_stored_weights.specs.Tables.{number_bits, run_bits, entry_bits, weight_bits}
-use Rattle.constriction_stored_weights.specs.private.Entries.{BeginsWithEntry, BeginsWithWeights}
+use Rattle.constriction_stored_weights.specs.private.Entries.{BeginsWithEntry, BeginsWithWeights, EndsInNumber, EndsInEntry, EndsInWeights}
 use Rattle.constriction_stored_weights.proofs.NumbersLemmas.{same_number}
 
 -- ---- runs
@@ -84,6 +84,52 @@ same_entry whole rest run weight run_fits some weight_fits e entry =
           let first = weight_first whole rest weight weight_fits (e ∙ entry_with_no_run run weight rest none) some entry in
           (omega (arith, first.0), first.1, first.2)
     ]
+
+-- an entry goes on from bits that end within its first number, its run or its weight
+pub ends_in_first : (given : List ℕ) → EndsInNumber given → EndsInEntry given
+ends_in_first given cut = record {
+  run = 0;
+  weight = cut.number;
+  more = cut.more;
+  some = cut.some;
+  goes_on = cut.goes_on;
+  bits_are = cut.bits_are ∙ sym (ap (λ xs. xs ++ number_bits cut.number) (no_run 0 (omega arith)));
+}
+
+pub ends_in_run : (given rest : List ℕ) (first : ℕ) → given ≡ number_bits first ++ rest → first ≤ 0 → EndsInNumber rest → EndsInEntry given
+ends_in_run given rest first e h cut =
+    let none : first ≡ 0 = omega arith in
+    record {
+      run = cut.number;
+      weight = 1;
+      more = cut.more ++ number_bits 1;
+      some = omega arith;
+      goes_on = let goes_on = cut.goes_on in omega (arith, length-append cut.more (number_bits 1));
+      bits_are =
+          ap (λ xs. xs ++ (cut.more ++ number_bits 1)) (e ∙ ap (λ k. number_bits k ++ rest) none)
+          ∙ append_assoc (number_bits 0) rest (cut.more ++ number_bits 1)
+          ∙ ap (λ xs. number_bits 0 ++ xs) (sym (append_assoc rest cut.more (number_bits 1)) ∙ ap (λ xs. xs ++ number_bits 1) cut.bits_are)
+          ∙ sym (append_assoc (number_bits 0) (number_bits cut.number) (number_bits 1))
+          ∙ ap (λ xs. xs ++ number_bits 1) (sym (a_run cut.number cut.some));
+    }
+
+pub ends_in_weight : (given rest last : List ℕ) (first run : ℕ) → given ≡ number_bits first ++ rest → first ≤ 0 → rest ≡ number_bits run ++ last → 0 < run
+    → EndsInNumber last → EndsInEntry given
+ends_in_weight given rest last first run e h f some cut =
+    let none : first ≡ 0 = omega arith in
+    let front = number_bits 0 ++ number_bits run in
+    let given_is : given ≡ front ++ last =
+    e ∙ ap (λ k. number_bits k ++ rest) none ∙ ap (λ xs. number_bits 0 ++ xs) f ∙ sym (append_assoc (number_bits 0) (number_bits run) last) in
+    record {
+      run = run;
+      weight = cut.number;
+      more = cut.more;
+      some = cut.some;
+      goes_on = cut.goes_on;
+      bits_are =
+          ap (λ xs. xs ++ cut.more) given_is ∙ append_assoc front last cut.more ∙ ap (λ xs. front ++ xs) cut.bits_are
+          ∙ ap (λ xs. xs ++ number_bits cut.number) (sym (a_run run some));
+    }
 
 pub extended : (up xs rest more : List ℕ) → up ≡ xs ++ rest → up ++ more ≡ xs ++ (rest ++ more)
 extended up xs rest more e = ap (λ s. s ++ more) e ∙ append_assoc xs rest more
@@ -238,6 +284,28 @@ reached_more precision count all done coming left small reached some run weight 
                 ∙ ap (λ k. done ++ (replicate run 0 ++ k ∷ on.weights)) (sym same.1) ∙ sym (grouped on.weights),
             same.2 ∙ on.rest_is,
           );
+    }
+
+-- a table goes on from bits that end within its next entry
+pub ends_in_weights : (precision count : ℕ) (all done coming : List ℕ) (left : ℕ) → Reached precision count all done coming left → 0 < left
+    → (length done ≡ count → ⊥) → EndsInEntry coming → EndsInWeights precision count all
+ends_in_weights precision count all done coming left reached some room cut =
+    let fits = reached.fits in
+    let total = reached.total in
+    let entry = entry_bits cut.run cut.weight in
+    record {
+      weights = done;
+      run = cut.run;
+      weight = cut.weight;
+      more = cut.more;
+      below = omega arith;
+      room = omega (arith, room);
+      some = cut.some;
+      goes_on = cut.goes_on;
+      bits_are =
+          ap (λ xs. xs ++ cut.more) reached.parts ∙ append_assoc reached.taken coming cut.more
+          ∙ ap (λ xs. reached.taken ++ xs) (cut.bits_are ∙ sym (append-nil entry) ∙ sym (weight_bits-entry cut.run cut.weight [] cut.some))
+          ∙ sym (reached.written (replicate cut.run 0 ++ cut.weight ∷ []));
     }
 
 -- what is known once weights over all quantiles were read, and zeros were added for the others

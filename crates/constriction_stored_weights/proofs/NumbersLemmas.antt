@@ -1,11 +1,13 @@
 -- Numbers as bits: their length, one text each, and cut ones.
-use Rattle.std.proofs.Common.{◌≡◌, ℕ, zero, suc, ◌+◌, ◌-◌, ◌*◌, ◌/◌, ◌^◌, ◌<◌, ◌≤◌, List, ◌++◌, length, refl, sym, ap, ◌∙◌, arith, append-nil, append_assoc, length-append, pow-suc}
+use Rattle.std.proofs.Common.{◌≡◌, ℕ, zero, suc, ◌+◌, ◌-◌, ◌*◌, ◌/◌, ◌^◌, ◌<◌, ◌≤◌, List, ◌++◌, length, refl, sym, ap, ◌∙◌, arith, append-nil, append_assoc, length-append, pow-suc, replicate, mul-le-mul_right, []}
 use Rattle.std.proofs.Math.Nat.{pow-le-pow_right}
 use Rattle.std.specs.Int.{w32, leading_zeros}
-use Rattle.std.proofs.lemmas.Nat.{leading_length, le-div, div_below, pow_pos}
+use Rattle.std.proofs.lemmas.List.{length-replicate}
+use Rattle.std.proofs.lemmas.Nat.{leading_length, le-div, div_below, pow_pos, pow-add, pow_below}
 use Rattle.constriction_stored_weights.specs.Bits.{bits}
 use Rattle.constriction_stored_weights.specs.Tables.{bit_length, number_bits}
-use Rattle.constriction_stored_weights.proofs.BitsLemmas.{apart, no_bits, same_bits, length-bits}
+use Rattle.constriction_stored_weights.specs.private.Entries.{EndsInBits, EndsInNumber}
+use Rattle.constriction_stored_weights.proofs.BitsLemmas.{bits-ones, apart, no_bits, same_bits, length-bits}
 
 -- ---- the length of a number
 
@@ -98,22 +100,74 @@ same_number a b r s a-fits b-fits e =
 
 -- ---- cut numbers
 
-pub cut_in_length : (n : ℕ) (up rest : List ℕ) → length up < 4 → up ≡ number_bits n ++ rest → ⊥
-cut_in_length n up rest h e =
-    omega (
-      arith,
-      ap length (e ∙ ap (λ xs. xs ++ rest) (bits_of_number n) ∙ append_assoc (bits 4 (bit_length n)) _ rest),
-      length-append (bits 4 (bit_length n)) (bits (bit_length n - 1) n ++ rest),
-      length-bits 4 (bit_length n),
-    )
+-- bits that a number goes on from begin with no number
+pub no_number_yet : (given : List ℕ) → EndsInNumber given → (number : ℕ) (rest : List ℕ) → number < 2 ^ 15 → given ≡ number_bits number ++ rest → ⊥
+no_number_yet given cut number rest fits e =
+    let goes_on = cut.goes_on in
+    let same = same_number number cut.number (rest ++ cut.more) [] fits cut.fits
+    (sym (append_assoc (number_bits number) rest cut.more) ∙ ap (λ xs. xs ++ cut.more) (sym e) ∙ cut.bits_are
+    ∙ sym (append-nil (number_bits cut.number))) in
+    omega (arith, ap length same.1, length-append rest cut.more)
 
-pub cut_in_bits : (n count : ℕ) (up rest : List ℕ) → n < 2 ^ 15 → count < 16 → length up < count - 1 → bits 4 count ++ up ≡ number_bits n ++ rest → ⊥
-cut_in_bits n count up rest h few cut e =
-    let first = length_first n count up rest h few e in
-    omega (
-      arith,
-      first.0,
-      ap length first.1,
-      length-append (bits (bit_length n - 1) n) rest,
-      length-bits (bit_length n - 1) n,
-    )
+-- a number goes on from bits that end within its length
+pub ends_in_length : (given : List ℕ) → EndsInBits 0 4 given → EndsInNumber given
+ends_in_length given cut =
+    let missing = 4 - cut.taken in
+    let few = cut.few in
+    let most = cut.most in
+    let count = (cut.number + 1) * 2 ^ missing - 1 in
+    let four : cut.taken + missing ≡ 4 = omega arith in
+    let whole : 2 ^ cut.taken * 2 ^ missing ≡ 16 = sym (pow-add 2 cut.taken missing) ∙ ap (λ k. 2 ^ k) four in
+    let one_missing : 1 ≤ missing = omega arith in
+    let some : 2 ≤ 2 ^ missing = pow-le-pow_right {n = 2} (omega arith) one_missing in
+    let low : 1 * 2 ^ missing ≤ (cut.number + 1) * 2 ^ missing = mul-le-mul_right (2 ^ missing) (omega arith) in
+    let high : (cut.number + 1) * 2 ^ missing ≤ 2 ^ cut.taken * 2 ^ missing = mul-le-mul_right (2 ^ missing) (omega arith) in
+    let count_some : 0 < count = omega arith in
+    let count_few : count < 16 = omega arith in
+    let number = 2 ^ (count - 1) in
+    let one_less : count - 1 < count = omega arith in
+    let length_is : bits 4 count ≡ given ++ replicate missing 1 =
+    ap (λ k. bits k count) (sym four) ∙ bits-ones cut.taken cut.number missing ∙ ap (λ xs. xs ++ replicate missing 1) (sym cut.bits_are) in
+    record {
+      number = number;
+      more = replicate missing 1 ++ bits (count - 1) number;
+      some = pow_pos (count - 1);
+      fits = let below : count - 1 < 15 = omega arith in pow_below (count - 1) 15 below;
+      goes_on = omega (arith, length-append (replicate missing 1) (bits (count - 1) number), length-replicate {A = ℕ} missing 1);
+      bits_are =
+          sym (append_assoc given (replicate missing 1) (bits (count - 1) number))
+          ∙ ap (λ xs. xs ++ bits (count - 1) number) (sym length_is)
+          ∙ sym (number_of_length number count count_few count_some (omega arith) (pow_below (count - 1) count one_less));
+    }
+
+-- a number goes on from its length and bits that end within it
+pub ends_in_bits : (count : ℕ) (given rest : List ℕ) → count < 16 → given ≡ bits 4 count ++ rest → EndsInBits 1 (count - 1) rest → EndsInNumber given
+ends_in_bits count given rest few e cut =
+    let missing = count - 1 - cut.taken in
+    let cut_few = cut.few in
+    let least = cut.least in
+    let most = cut.most in
+    let number = (cut.number + 1) * 2 ^ missing - 1 in
+    let all : cut.taken + missing ≡ count - 1 = omega arith in
+    let whole : 2 ^ cut.taken * 2 ^ missing ≡ 2 ^ (count - 1) = sym (pow-add 2 cut.taken missing) ∙ ap (λ k. 2 ^ k) all in
+    let more : count ≡ suc (count - 1) = omega arith in
+    let twice : 2 ^ count ≡ 2 ^ (count - 1) * 2 = ap (λ k. 2 ^ k) more ∙ pow-suc 2 (count - 1) in
+    let some : 0 < 2 ^ missing = pow_pos missing in
+    let low : (2 ^ cut.taken + 1) * 2 ^ missing ≤ (cut.number + 1) * 2 ^ missing = mul-le-mul_right (2 ^ missing) (omega arith) in
+    let high : (cut.number + 1) * 2 ^ missing ≤ (2 * 2 ^ cut.taken) * 2 ^ missing = mul-le-mul_right (2 ^ missing) (omega arith) in
+    let above : 2 ^ (count - 1) ≤ number = omega arith in
+    let below : number < 2 ^ count = omega arith in
+    let top : 0 < 2 ^ (count - 1) = pow_pos (count - 1) in
+    let number_is = number_of_length number count few (omega arith) above below in
+    record {
+      number = number;
+      more = replicate missing 1;
+      some = omega arith;
+      fits = let few_bits : count ≤ 15 = omega arith in omega (arith, pow-le-pow_right {n = 2} (omega arith) few_bits);
+      goes_on = omega (arith, length-replicate {A = ℕ} missing 1);
+      bits_are =
+          ap (λ xs. xs ++ replicate missing 1) (e ∙ ap (λ xs. bits 4 count ++ xs) cut.bits_are)
+          ∙ append_assoc (bits 4 count) (bits cut.taken cut.number) (replicate missing 1)
+          ∙ ap (λ xs. bits 4 count ++ xs) (sym (bits-ones cut.taken cut.number missing))
+          ∙ ap (λ k. bits 4 count ++ bits k number) all ∙ sym number_is;
+    }

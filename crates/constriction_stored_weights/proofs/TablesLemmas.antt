@@ -2,8 +2,8 @@
 use Rattle.std.proofs.Common.{◌≡◌, ℕ, ◌%◌, ◌^◌, ◌<◌, ◌≤◌, List, [], ◌++◌, length, replicate, take, drop, sym, ap, ◌∙◌, subst, arith, append-nil, append_assoc, length-append, length-take}
 use Rattle.std.proofs.lemmas.List.{append_cancel_left, append_cancel_right, take-append-drop, take_at, length-replicate}
 use Rattle.constriction_stored_weights.specs.Bits.{bits, bits_of_bytes}
-use Rattle.constriction_stored_weights.specs.Tables.{weight_bits, IsTableText, BeginsWithTable}
-use Rattle.constriction_stored_weights.specs.private.Entries.{BeginsWithWeights}
+use Rattle.constriction_stored_weights.specs.Tables.{weight_bits, IsTableText, BeginsWithTable, EndsInTable}
+use Rattle.constriction_stored_weights.specs.private.Entries.{BeginsWithWeights, EndsInWeights}
 use Rattle.constriction_stored_weights.proofs.BitsLemmas.{apart, no_bits, length-bits, bits_of_bytes-append, length-bits_of_bytes, zero_bits, none_left}
 
 pub bits_of_table : (precision count : ℕ) (whole bytes more : List ℕ) → whole ≡ bytes ++ more → (table : BeginsWithTable precision count whole)
@@ -32,6 +32,20 @@ pub begins_alone : (precision count : ℕ) (bytes : List ℕ) → BeginsWithTabl
 begins_alone precision count bytes table =
     subst (BeginsWithWeights precision count) (append-nil (bits 0 0 ++ bits_of_bytes bytes))
     (begins_with_weights precision count bytes bytes [] (sym (append-nil bytes)) table)
+
+pub ends_in_table : (precision count : ℕ) (bytes : List ℕ) → EndsInWeights precision count (bits 0 0 ++ bits_of_bytes bytes)
+    → EndsInTable precision count bytes
+ends_in_table precision count bytes cut = record {
+  weights = cut.weights;
+  run = cut.run;
+  weight = cut.weight;
+  more = cut.more;
+  below = cut.below;
+  room = cut.room;
+  some = cut.some;
+  goes_on = cut.goes_on;
+  bits_are = ap (λ xs. xs ++ bits_of_bytes bytes ++ cut.more) (sym (no_bits 0)) ∙ cut.bits_are;
+}
 
 -- texts of the same weights are as long
 pub same_length : (weights others text longer : List ℕ) → others ≡ weights → IsTableText weights text → IsTableText others longer → length longer ≡ length text

@@ -46,3 +46,15 @@ pub record BeginsWithTable (precision count : ℕ) (bytes : List ℕ) : Type 0 w
   pub counted : length weights ≡ count
   pub is_text : IsTableText weights text
   pub bytes_are : bytes ≡ text ++ rest
+
+-- bytes that end within an entry, after weights that are fewer than a table's and over fewer quantiles
+pub record EndsInTable (precision count : ℕ) (bytes : List ℕ) : Type 0 where
+  pub weights : List ℕ
+  pub run : ℕ
+  pub weight : ℕ
+  pub more : List ℕ
+  pub below : sum weights < 2 ^ precision
+  pub room : length weights < count
+  pub some : 0 < weight
+  pub goes_on : 0 < length more
+  pub bits_are : bits_of_bytes bytes ++ more ≡ weight_bits 0 (weights ++ (replicate run 0 ++ weight ∷ []))

@@ -3,7 +3,7 @@
 ghost use Rattle.std.specs.Prelude.{◌≡◌, ◌≢◌, [], ℕ, List, ◌∷◌, ◌++◌, ◌+◌, ◌*◌, ◌-◌, ◌^◌, ◌<◌, ◌≤◌, Err, IfOk, OnOk, length, replicate, sum};
 ghost use Rattle.std.specs.Vec.{vec_capacity};
 ghost use Rattle.constriction_stored_weights.specs.Tables.{entry_bits, weight_bits, IsTable, IsTableText};
-ghost use Rattle.constriction_stored_weights.specs.private.Entries.{BeginsWithEntry, BeginsWithWeights};
+ghost use Rattle.constriction_stored_weights.specs.private.Entries.{BeginsWithEntry, BeginsWithWeights, EndsInEntry, EndsInWeights};
 ghost use Rattle.constriction_stored_weights.specs.private.Places.{Extends, upcoming};
 
 use crate::places::{ReadPlace, WritePlace};
@@ -21,6 +21,8 @@ fn read_entry(bytes: &[u8], place: &mut ReadPlace) -> Result<(u32, u32), TableRe
         × (entry.0 < 2 ^ 15) × (0 < entry.1) × (entry.1 < 2 ^ 15)) }
     ensures cut { result ≡ Err TableReadingError.TooFewBytes
         → ¬ (BeginsWithEntry (upcoming bytes.now place.old)) }
+    ensures ends { result ≡ Err TableReadingError.TooFewBytes
+        → EndsInEntry (upcoming bytes.now place.old) }
     ensures not_a_table { result ≡ Err TableReadingError.NotATable
         → (more : List ℕ) → ¬ (BeginsWithEntry (upcoming bytes.now place.old ++ more)) }
     ensures memory { result ≢ Err TableReadingError.OutOfMemory }
@@ -79,12 +81,17 @@ pub fn read_entries<const PRECISION: usize>(
         → read.weights ≡ weights.new.items) }
     ensures cut { result ≡ Err TableReadingError.TooFewBytes
         → ¬ (BeginsWithWeights PRECISION count (upcoming bytes.now place.old)) }
+    ensures ends { result ≡ Err TableReadingError.TooFewBytes
+        → EndsInWeights PRECISION count (upcoming bytes.now place.old) }
     ensures not_a_table { result ≡ Err TableReadingError.NotATable → (more : List ℕ)
         → ¬ (BeginsWithWeights PRECISION count (upcoming bytes.now place.old ++ more)) }
     ensures memory { result ≢ Err TableReadingError.OutOfMemory }
 {
     let mut left = 1u32 << PRECISION;
     while left > 0 {
+        if weights.len() == count {
+            return Err(TableReadingError::NotATable);
+        }
         let (zeros, weight) = read_entry(bytes, place)?;
         if zeros as usize >= count - weights.len() || weight > left {
             return Err(TableReadingError::NotATable);

@@ -3,6 +3,7 @@
 ghost use Rattle.std.specs.Prelude.{◌≡◌, [], ℕ, List, ◌∷◌, ◌++◌, ◌+◌, ◌*◌, ◌-◌, ◌^◌, ◌<◌, ◌≤◌, ◌≢◌, IfSome, length, None};
 ghost use Rattle.constriction_stored_weights.specs.Bits.{bits};
 ghost use Rattle.constriction_stored_weights.specs.Tables.{number_bits};
+ghost use Rattle.constriction_stored_weights.specs.private.Entries.{EndsInBits, EndsInNumber};
 ghost use Rattle.constriction_stored_weights.specs.private.Places.{upcoming};
 
 use crate::places::ReadPlace;
@@ -39,7 +40,7 @@ fn read_bits(bytes: &[u8], place: &mut ReadPlace, above: u32, count: u32) -> Opt
     ensures some { IfSome result (λ number.
         (upcoming bytes.now place.old ≡ bits count number ++ upcoming bytes.now place.new)
         × (above * 2 ^ count ≤ number) × (number < (above + 1) * 2 ^ count)) }
-    ensures none { result ≡ None → length (upcoming bytes.now place.old) < count }
+    ensures none { result ≡ None → EndsInBits above count (upcoming bytes.now place.old) }
 {
     let mut number = above;
     for at in 0..count {
@@ -54,8 +55,7 @@ pub fn read_number(bytes: &[u8], place: &mut ReadPlace) -> Option<u32>
     ensures within { place.new.next ≤ length bytes.now }
     ensures some { IfSome result (λ number. (number < 2 ^ 15)
         × (upcoming bytes.now place.old ≡ number_bits number ++ upcoming bytes.now place.new)) }
-    ensures none { result ≡ None → (number : ℕ) (rest : List ℕ) → number < 2 ^ 15
-        → upcoming bytes.now place.old ≢ number_bits number ++ rest }
+    ensures none { result ≡ None → EndsInNumber (upcoming bytes.now place.old) }
 {
     let length = read_bits(bytes, place, 0, 4)?;
     if length == 0 {

@@ -5,8 +5,11 @@ use thiserror::Error;
 /// Why no table was read.
 #[derive(Debug, PartialEq, Eq, Drop, Error)]
 pub enum TableReadingError {
+    /// Bytes after them are needed.
     #[error("The bytes end before the table does.")]
     TooFewBytes,
+    /// The total is not `2^PRECISION`, there are more weights than asked for, a run has no zeros or
+    /// follows a run, or a bit after the last weight is not 0.
     #[error("The bytes do not begin with a table.")]
     NotATable,
     #[error("Memory for the weights was refused.")]
@@ -16,7 +19,8 @@ pub enum TableReadingError {
 /// Why no table was written.
 #[derive(Debug, PartialEq, Eq, Drop, Error)]
 pub enum TableWritingError {
-    #[error("The weights are too many, or their total is not 2^PRECISION.")]
+    /// There are more than `2^15`, or their total is not `2^PRECISION`.
+    #[error("The weights are not those of a table.")]
     NotATable,
     #[error("Memory for the table was refused.")]
     OutOfMemory,

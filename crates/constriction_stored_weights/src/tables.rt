@@ -2,7 +2,7 @@
 
 ghost use Rattle.std.specs.Prelude.{◌≡◌, ◌≢◌, ◌↔◌, ℕ, List, ◌++◌, ◌^◌, ◌<◌, ◌≤◌, Err, IfOk, IsTrue, OnErr, OnOk, length, take};
 ghost use Rattle.std.specs.List.{All};
-ghost use Rattle.constriction_stored_weights.specs.Tables.{BeginsWithTable, IsTable, IsTableText};
+ghost use Rattle.constriction_stored_weights.specs.Tables.{BeginsWithTable, EndsInTable, IsTable, IsTableText};
 
 use crate::entries::{push_weights, read_entries};
 use crate::places::ReadPlace;
@@ -25,9 +25,10 @@ fn are_a_table<const PRECISION: usize>(weights: &[u32]) -> bool
     total == 1 << PRECISION
 }
 
-/// Adds the text of a table: at most `2^15` weights over `2^PRECISION` quantiles.
+/// Adds the text of a table, of at most `2^15` weights that add up to `2^PRECISION`.
 ///
-/// The text does not say how many weights there are. If there is an error, the bytes stay.
+/// The text does not say how many weights there are. Bytes grow as a `Vec` does. If there is an
+/// error, they stay. There are two passes over the weights.
 pub fn write_table<const PRECISION: usize>(
     weights: &[u32],
     bytes: &mut Vec<u8>,
@@ -51,9 +52,11 @@ pub fn write_table<const PRECISION: usize>(
     Ok(())
 }
 
-/// Reads a table of so many weights that bytes begin with, and says how many bytes it took.
+/// Reads the table of `count` weights that bytes begin with. With it comes how many bytes its text
+/// has.
 ///
-/// Memory is asked for once, for the weights.
+/// Memory is asked for once, for `count` weights, whatever the bytes say. No byte after the text is
+/// read.
 pub fn read_table<const PRECISION: usize>(
     alloc: Global,
     bytes: &[u8],
@@ -64,12 +67,14 @@ pub fn read_table<const PRECISION: usize>(
     ensures ok { IfOk result (λ read. IsTable PRECISION read.0.items
         × (length read.0.items ≡ count) × (read.1 ≤ length bytes.now)
         × IsTableText read.0.items (take read.1 bytes.now)) }
-    // Bytes begin with one table.
+    // Bytes begin with one table at most.
     ensures only { IfOk result (λ read. (table : BeginsWithTable PRECISION count bytes.now)
         → (table.weights ≡ read.0.items) × (table.text ≡ take read.1 bytes.now)) }
     ensures cut { result ≡ Err TableReadingError.TooFewBytes
         → ¬ (BeginsWithTable PRECISION count bytes.now) }
-    // More bytes do not make it a table.
+    ensures ends { result ≡ Err TableReadingError.TooFewBytes
+        → EndsInTable PRECISION count bytes.now }
+    // Whatever bytes follow.
     ensures not_a_table { result ≡ Err TableReadingError.NotATable
         → (more : List ℕ) → ¬ (BeginsWithTable PRECISION count (bytes.now ++ more)) }
 {

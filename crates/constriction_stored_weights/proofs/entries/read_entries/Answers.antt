@@ -5,7 +5,7 @@ use Rattle.constriction_stored_weights.specs.Tables.{entry_bits}
 use Rattle.constriction_stored_weights.specs.private.Entries.{BeginsWithEntry}
 use Rattle.constriction_stored_weights.specs.private.Places.{upcoming}
 use Rattle.constriction_stored_weights.specs.declared.table_errors.TableReadingError.TheVariants.{TooFewBytes, NotATable}
-use Rattle.constriction_stored_weights.proofs.EntriesLemmas.{reached_none, reached_more, goes_on, same_entry, extended, whole_table, alone}
+use Rattle.constriction_stored_weights.proofs.EntriesLemmas.{reached_none, reached_more, goes_on, same_entry, extended, whole_table, ends_in_weights, alone}
 use Rattle.constriction_stored_weights.proofs.entries.read_entries.Goals as goal
 use Rattle.constriction_stored_weights.proofs.entries.read_entries.Goals.{then-zeros-count-via-then-zeros-count, then-zeros-count-via-else-zeros-count+then-weight-left}
 
@@ -99,3 +99,21 @@ returns-clause-only g c =
     let whole = whole_table g.row.PRECISION c.args.count all done coming c.loop-left.left c.loop-left.invariant.reached c.loop-left-test.false in
     let others : c.args.count - c.len-2.result ≡ c.args.count - length done = omega (arith, c.len-2.ensures) in
     rw (c.push_zeros-2.ensures.items, others) whole.only
+
+pub returns-in_err-zeros-clause-ends : goal.returns-in_err-zeros-clause-ends
+returns-in_err-zeros-clause-ends g c =
+    let q = err_from_is_err_and c.from_residual.result c.from_residual.ensures.1 in
+    let all = upcoming c.args.bytes.now c.args.place.now in
+    let coming = upcoming c.args.bytes.now c.loop-left.place in
+    rw (q.1, q.2) (λ is.
+    let same : c.in_err-zeros.field-0.0 ≡ TooFewBytes = cc in
+    ends_in_weights g.row.PRECISION c.args.count all c.loop-left.weights.items coming c.loop-left.left c.loop-left.invariant.reached
+    c.loop-left-test.true (λ whole. omega (arith, whole, c.len.ensures, c.if-len-count.false)) (c.in_err-zeros.ensures.ends (ap Err same)))
+
+pub returns-then-len-count-clause-not_a_table : goal.returns-then-len-count-clause-not_a_table
+returns-then-len-count-clause-not_a_table g c = λ is more table.
+    let all = upcoming c.args.bytes.now c.args.place.now in
+    let coming = upcoming c.args.bytes.now c.loop-left.place in
+    let on = goes_on g.row.PRECISION c.args.count all c.loop-left.weights.items coming c.loop-left.left c.requires.precision
+    c.loop-left.invariant.reached c.loop-left-test.true more table in
+    omega (arith, on.room, c.len.ensures, c.if-len-count.true)

@@ -1,14 +1,14 @@
 use Rattle.std.proofs.Common.{◌≡◌, ◌<◌, ◌++◌, ap, sym, ◌∙◌, arith}
 use Rattle.constriction_stored_weights.specs.Tables.{number_bits}
 use Rattle.constriction_stored_weights.specs.private.Places.{upcoming}
-use Rattle.constriction_stored_weights.proofs.NumbersLemmas.{same_number}
-use Rattle.constriction_stored_weights.proofs.EntriesLemmas.{begins_with_number, entry_with_no_run, entry_with_run, run_after, extended}
+use Rattle.constriction_stored_weights.proofs.NumbersLemmas.{same_number, no_number_yet}
+use Rattle.constriction_stored_weights.proofs.EntriesLemmas.{begins_with_number, entry_with_no_run, entry_with_run, run_after, extended, ends_in_first, ends_in_run, ends_in_weight}
 use Rattle.constriction_stored_weights.proofs.entries.read_entry.Goals as goal
 
 pub returns-in_default-clause-cut : goal.returns-in_default-clause-cut
 returns-in_default-clause-cut c = λ is entry.
     let first = begins_with_number (upcoming c.args.bytes.now c.args.place.now) entry in
-    c.read_number.ensures.none c.in_default.is first.0 first.2.0 first.1 first.2.1
+    no_number_yet (upcoming c.args.bytes.now c.args.place.now) (c.read_number.ensures.none c.in_default.is) first.0 first.2.0 first.1 first.2.1
 
 pub returns-then-first-gt0-clause-ok : goal.returns-then-first-gt0-clause-ok
 returns-then-first-gt0-clause-ok c =
@@ -19,7 +19,8 @@ returns-then-first-gt0-clause-ok c =
 pub returns-in_default-read_number-clause-cut : goal.returns-in_default-read_number-clause-cut
 returns-in_default-read_number-clause-cut c = λ is entry.
     let after = run_after _ _ c.in-Some.first c.in-Some.ensures.some.1 c.if-first-gt0.false entry in
-    c.read_number-2.ensures.none c.in_default-read_number.is entry.run (number_bits entry.weight ++ entry.rest) entry.run_fits after.0
+    no_number_yet (upcoming c.args.bytes.now c.read_number.new.place) (c.read_number-2.ensures.none c.in_default-read_number.is) entry.run
+    (number_bits entry.weight ++ entry.rest) entry.run_fits after.0
 
 pub returns-then-zeros-eq0-clause-not_a_table : goal.returns-then-zeros-eq0-clause-not_a_table
 returns-then-zeros-eq0-clause-not_a_table c = λ is more entry.
@@ -44,7 +45,8 @@ returns-in_default-read_number-2-clause-cut c = λ is entry.
     c.if-first-gt0.false entry in
     let same = same_number c.in-Some-read_number.zeros entry.run (upcoming bytes c.read_number-2.new.place) (number_bits entry.weight ++ entry.rest)
     second.0 entry.run_fits (sym second.1 ∙ after.0) in
-    c.read_number-3.ensures.none c.in_default-read_number-2.is entry.weight entry.rest entry.weight_fits same.1
+    no_number_yet (upcoming bytes c.read_number-2.new.place) (c.read_number-3.ensures.none c.in_default-read_number-2.is) entry.weight entry.rest
+    entry.weight_fits same.1
 
 pub returns-then-weight-eq0-clause-not_a_table : goal.returns-then-weight-eq0-clause-not_a_table
 returns-then-weight-eq0-clause-not_a_table c = λ is more entry.
@@ -80,3 +82,20 @@ returns-clause-ok c =
       omega (arith, c.if-weight-eq0.false),
       c.in-Some-read_number-2.ensures.some.0,
     )
+
+pub returns-in_default-clause-ends : goal.returns-in_default-clause-ends
+returns-in_default-clause-ends c = λ is.
+    ends_in_first (upcoming c.args.bytes.now c.args.place.now) (c.read_number.ensures.none c.in_default.is)
+
+pub returns-in_default-read_number-clause-ends : goal.returns-in_default-read_number-clause-ends
+returns-in_default-read_number-clause-ends c = λ is.
+    let bytes = c.args.bytes.now in
+    ends_in_run (upcoming bytes c.args.place.now) (upcoming bytes c.read_number.new.place) c.in-Some.first c.in-Some.ensures.some.1
+    c.if-first-gt0.false (c.read_number-2.ensures.none c.in_default-read_number.is)
+
+pub returns-in_default-read_number-2-clause-ends : goal.returns-in_default-read_number-2-clause-ends
+returns-in_default-read_number-2-clause-ends c = λ is.
+    let bytes = c.args.bytes.now in
+    ends_in_weight (upcoming bytes c.args.place.now) (upcoming bytes c.read_number.new.place) (upcoming bytes c.read_number-2.new.place)
+    c.in-Some.first c.in-Some-read_number.zeros c.in-Some.ensures.some.1 c.if-first-gt0.false c.in-Some-read_number.ensures.some.1
+    (omega (arith, c.if-zeros-eq0.false)) (c.read_number-3.ensures.none c.in_default-read_number-2.is)

@@ -1,7 +1,7 @@
-use Rattle.std.proofs.Common.{◌≡◌, ℕ, ◌+◌, ◌*◌, ◌^◌, ◌<◌, List, [], ◌∷◌, ◌++◌, length, ap, sym, ◌∙◌, arith, append_assoc, length-append, pow-suc, add-one, rules}
+use Rattle.std.proofs.Common.{append-nil, ◌≡◌, ℕ, ◌+◌, ◌*◌, ◌^◌, ◌<◌, List, [], ◌∷◌, ◌++◌, ap, sym, ◌∙◌, arith, append_assoc, pow-suc, add-one, rules}
 use Rattle.constriction_stored_weights.specs.Bits.{bits}
 use Rattle.constriction_stored_weights.specs.private.Places.{upcoming}
-use Rattle.constriction_stored_weights.proofs.BitsLemmas.{no_bits, bits-more, length-bits}
+use Rattle.constriction_stored_weights.proofs.BitsLemmas.{no_bits, bits-more}
 use Rattle.constriction_stored_weights.proofs.reading.read_bits.Goals as goal
 
 pub loop-at-init : goal.loop-at-init
@@ -17,14 +17,15 @@ pub returns-in_err-number-clause-none : goal.returns-in_err-number-clause-none
 returns-in_err-number-clause-none c = λ is.
     let here = c.loop-at.invariant in
     let ended : upcoming c.args.bytes.now c.loop-at.place ≡ [] = search (rules, c.in_err-number.ensures.none) in
-    omega (
-      arith,
-      ap length here.so_far,
-      length-append (bits c.loop-at.at c.loop-at.number) (upcoming c.args.bytes.now c.loop-at.place),
-      length-bits c.loop-at.at c.loop-at.number,
-      ap length ended,
-      c.loop-at-test.true,
-    )
+    record {
+      taken = c.loop-at.at;
+      number = c.loop-at.number;
+      few = omega (arith, c.loop-at-test.true);
+      least = here.least;
+      most = here.most;
+      bits_are =
+          here.so_far ∙ ap (λ xs. bits c.loop-at.at c.loop-at.number ++ xs) ended ∙ append-nil (bits c.loop-at.at c.loop-at.number);
+    }
 
 doubles : (above at : ℕ) → above * 2 ^ (at + 1) ≡ 2 * (above * 2 ^ at)
 doubles above at = ap (λ k. above * 2 ^ k) (add-one at) ∙ ap (λ k. above * k) (pow-suc 2 at) ∙ grind arith

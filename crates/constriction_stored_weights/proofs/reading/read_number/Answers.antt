@@ -3,12 +3,8 @@ use Rattle.std.proofs.Math.Nat.{pow-le-pow_right}
 use Rattle.constriction_stored_weights.specs.Bits.{bits}
 use Rattle.constriction_stored_weights.specs.Tables.{number_bits}
 use Rattle.constriction_stored_weights.specs.private.Places.{upcoming}
-use Rattle.constriction_stored_weights.proofs.NumbersLemmas.{zero_number, number_of_length, cut_in_length, cut_in_bits}
+use Rattle.constriction_stored_weights.proofs.NumbersLemmas.{zero_number, number_of_length, ends_in_length, ends_in_bits}
 use Rattle.constriction_stored_weights.proofs.reading.read_number.Goals as goal
-
-pub returns-in_err-length-clause-none : goal.returns-in_err-length-clause-none
-returns-in_err-length-clause-none c =
-    λ is number rest fits e. cut_in_length number (upcoming c.args.bytes.now c.args.place.now) rest (c.in_err-length.ensures.none refl) e
 
 pub returns-then-length-eq0-clause-some : goal.returns-then-length-eq0-clause-some
 returns-then-length-eq0-clause-some c = (
@@ -47,11 +43,13 @@ returns-clause-some c =
     (upcoming bytes c.read_bits-2.new.place) few some read.0)
     c.read_bits-2.ensures.some
 
+pub returns-in_err-length-clause-none : goal.returns-in_err-length-clause-none
+returns-in_err-length-clause-none c = λ is. ends_in_length (upcoming c.args.bytes.now c.args.place.now) (c.in_err-length.ensures.none refl)
+
 pub returns-clause-none : goal.returns-clause-none
 returns-clause-none c =
     let bytes = c.args.bytes.now in
-    let count = c.in_ok-length.length in
     let read = c.in_ok-length.ensures.some in
-    let few : count < 16 = omega (arith, read.2) in
-    λ is number rest fits e. cut_in_bits number count (upcoming bytes c.read_bits.new.place) rest fits few (c.read_bits-2.ensures.none is)
-    (sym read.0 ∙ e)
+    let few : c.in_ok-length.length < 16 = omega (arith, read.2) in
+    λ is. ends_in_bits c.in_ok-length.length (upcoming bytes c.args.place.now) (upcoming bytes c.read_bits.new.place) few read.0
+    (c.read_bits-2.ensures.none is)

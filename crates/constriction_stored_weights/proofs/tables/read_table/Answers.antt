@@ -6,7 +6,7 @@ use Rattle.constriction_stored_weights.specs.Tables.{weight_bits, IsTableText}
 use Rattle.constriction_stored_weights.specs.private.Places.{upcoming}
 use Rattle.constriction_stored_weights.specs.declared.places.ReadPlace.{ReadPlace}
 use Rattle.constriction_stored_weights.specs.declared.table_errors.TableReadingError.TheVariants.{TooFewBytes, NotATable}
-use Rattle.constriction_stored_weights.proofs.TablesLemmas.{begins_with_weights, begins_alone, text_read, same_text, zeros_after}
+use Rattle.constriction_stored_weights.proofs.TablesLemmas.{begins_with_weights, begins_alone, ends_in_table, text_read, same_text, zeros_after}
 use Rattle.constriction_stored_weights.proofs.tables.read_table.Goals as goal
 
 pub returns-in_err-read_entries-clause-cut : goal.returns-in_err-read_entries-clause-cut
@@ -68,3 +68,10 @@ returns-clause-only g c = λ table.
       same_text weights table.weights bytes table.text table.rest place.next same read.within
           (text_taken bytes weights place c.if-place-gt0.false read.ok) table.is_text table.bytes_are,
     )
+
+pub returns-in_err-read_entries-clause-ends : goal.returns-in_err-read_entries-clause-ends
+returns-in_err-read_entries-clause-ends g c =
+    let q = err_from_is_err_and c.from_residual.result c.from_residual.ensures.1 in
+    rw (q.1, q.2) (λ is.
+    let same : c.in_err-read_entries.field-0.0 ≡ TooFewBytes = cc in
+    ends_in_table g.row.PRECISION c.args.count c.args.bytes.now (c.in_err-read_entries.ensures.ends (ap Err same)))

@@ -1,4 +1,4 @@
-use Rattle.std.proofs.Common.{◌≡◌, ℕ, zero, suc, ◌<◌, ◌≤◌, [], ◌++◌, ap, sym, ◌∙◌, arith, append-nil, refl}
+use Rattle.std.proofs.Common.{◌++◌, ap, sym, ◌∙◌, append-nil}
 use Rattle.constriction_stored_weights.specs.Tables.{number_bits, run_bits}
 use Rattle.constriction_stored_weights.specs.private.Places.{held}
 use Rattle.constriction_stored_weights.proofs.BitsLemmas.{added_twice}
