@@ -1,7 +1,9 @@
 -- The ends of rows, as words. A row's weight is its end minus its left cumulative.
-use Rattle.std.proofs.Common.{◌≡◌, ℕ, ◌+◌, ◌-◌, ◌%◌, ◌^◌, ◌<◌, ◌≤◌, List, [], ◌∷◌, length, get_or, map, ap, sym, refl, ◌∙◌, arith, inl, inr}
+use Rattle.std.proofs.Common.{◌≡◌, ℕ, ◌+◌, ◌-◌, ◌%◌, ◌^◌, ◌<◌, ◌≤◌, List, [], ◌∷◌, length, get_or, map, nat_lt, ap, sym, refl, ◌∙◌, arith, inl, inr}
 use Rattle.std.proofs.Math.Nat.{mod-eq_of_lt, mod-lt, pow-le-pow_right}
 use Rattle.std.proofs.lemmas.Bool.{cases_lt}
+use Rattle.std.proofs.lemmas.Bool.Decides.{nat_tests}
+use Rattle.std.specs.Int.{from_bool}
 use Rattle.std.proofs.lemmas.Nat.{pow_pos}
 use Rattle.std.proofs.lemmas.List.{length-append, length-map, get_or_append_left, get_or-append_right, get_or_default, get_or_past}
 use Rattle.constriction_model.proofs.Differences.{difference-mod}
@@ -66,6 +68,10 @@ module _ (bits precision : ℕ) (lefts : List ℕ) where
     pub among-end : (i : ℕ) (x : Word) → i < length lefts → x ≡ get_or cdf (i + 1) x → whole x ≡ end_at bits precision lefts i
     among-end i x h is =
         sym (read-whole whole cdf (i + 1) x (omega (arith, among-long)) is) ∙ ap (λ ns. get_or ns (i + 1) 0) e ∙ end-in i h
+
+-- the entry by which a row ends, and the end word beside it: those after the first ones, except at the last row
+pub entry_ending-within : (i n r : ℕ) → i < n → r ≡ from_bool (nat_lt i (n - 1)) → (r ≤ 1) × (i + r < n)
+entry_ending-within i n r h e = grind (arith, nat_tests)
 
 -- the ends of rows, by the two end words
 module _ {Word : Type 0} (whole : Word → ℕ) (bits precision : ℕ) (lefts : List ℕ) (end_words : List Word)

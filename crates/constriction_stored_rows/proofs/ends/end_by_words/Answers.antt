@@ -3,7 +3,7 @@ use Rattle.std.proofs.lemmas.Bool.{ltb-true, ltb-false}
 use Rattle.std.proofs.lemmas.List.{length-map}
 use Rattle.constriction_stored_rows.specs.lemmas.Stored.{read-whole}
 use Rattle.constriction_stored_rows.specs.Stored.{AreEndWords, end_at}
-use Rattle.constriction_stored_rows.proofs.EndLemmas.{end-last, end_words-two, end_words-next, end_words-last}
+use Rattle.constriction_stored_rows.proofs.EndLemmas.{entry_ending-within, end-last, end_words-two, end_words-next, end_words-last}
 use Rattle.constriction_stored_rows.proofs.ends.end_by_words.Goals as goal
 
 -- a comparison either holds or does not
@@ -67,3 +67,49 @@ returns g c =
           (omega (arith, long, last.0, c.requires.in_bounds)) (rw next at c.index-end_words-next.is) c.wrapping_minus.ensures.range
           (taken ∙ sym (read-whole known entries i c.index-entries-index.result c.requires.in_bounds (rw same at c.index-entries-index.is)))
     ]
+
+pub offset_bounds-end_words-index : goal.offset_bounds-end_words-index
+offset_bounds-end_words-index g c =
+    let known = λ (x : g.row.Word.Denot × g.row.Symbol.Denot). g.Word.WholeNumber.whole x.0 in
+    omega (
+      arith,
+      length-map c.args.entries.now known,
+      end_words-two g.Word.WholeNumber.whole g.Word.WholeNumber.BITS g.row.PRECISION (map known c.args.entries.now) c.args.end_words.now
+          c.requires.end_words,
+    )
+
+pub overflow_add-index : goal.overflow_add-index
+overflow_add-index g c =
+    let within = entry_ending-within c.args.index (length c.args.entries.now) c.from-next.result c.requires.in_bounds c.from-next.ensures in
+    omega arith
+
+pub offset_bounds-entries-index : goal.offset_bounds-entries-index
+offset_bounds-entries-index g c =
+    let within = entry_ending-within c.args.index (length c.args.entries.now) c.from-next.result c.requires.in_bounds c.from-next.ensures in
+    omega arith
+
+pub bounds-entries-index : goal.bounds-entries-index
+bounds-entries-index g c =
+    let within = entry_ending-within c.args.index (length c.args.entries.now) c.from-next.result c.requires.in_bounds c.from-next.ensures in
+    within.1
+
+pub bounds-entries-index-else-entries-le2 : goal.bounds-entries-index-else-entries-le2
+bounds-entries-index-else-entries-le2 g c =
+    let within = entry_ending-within c.args.index (length c.args.entries.now) c.from-next.result c.requires.in_bounds c.from-next.ensures in
+    within.1
+
+pub offset_bounds-end_words-next : goal.offset_bounds-end_words-next
+offset_bounds-end_words-next g c =
+    let known = λ (x : g.row.Word.Denot × g.row.Symbol.Denot). g.Word.WholeNumber.whole x.0 in
+    let within = entry_ending-within c.args.index (length c.args.entries.now) c.from-next.result c.requires.in_bounds c.from-next.ensures in
+    let two = end_words-two g.Word.WholeNumber.whole g.Word.WholeNumber.BITS g.row.PRECISION (map known c.args.entries.now)
+    c.args.end_words.now c.requires.end_words in
+    omega arith
+
+pub bounds-end_words-next : goal.bounds-end_words-next
+bounds-end_words-next g c =
+    let known = λ (x : g.row.Word.Denot × g.row.Symbol.Denot). g.Word.WholeNumber.whole x.0 in
+    let within = entry_ending-within c.args.index (length c.args.entries.now) c.from-next.result c.requires.in_bounds c.from-next.ensures in
+    let two = end_words-two g.Word.WholeNumber.whole g.Word.WholeNumber.BITS g.row.PRECISION (map known c.args.entries.now)
+    c.args.end_words.now c.requires.end_words in
+    omega arith
