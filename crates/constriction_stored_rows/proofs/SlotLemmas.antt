@@ -1,7 +1,7 @@
 -- The rows that meet a slot.
-use Rattle.std.proofs.Common.{◌≡◌, ℕ, ◌+◌, ◌-◌, ◌*◌, ◌/◌, ◌^◌, ◌<◌, ◌≤◌, List, length, get_or, map, take, drop, ap, sym, subst, ◌∙◌, arith, inl, inr}
+use Rattle.std.proofs.Common.{◌≡◌, ℕ, ◌+◌, ◌-◌, ◌*◌, ◌/◌, ◌^◌, ◌<◌, ◌≤◌, List, [], ◌++◌, length, get_or, map, take, drop, refl, ap, sym, subst, ◌∙◌, arith, inl, inr}
 use Rattle.std.proofs.lemmas.Bool.{cases_lt}
-use Rattle.std.proofs.lemmas.List.{length-map, take-map, drop-map, get_or-take, get_or-drop, length-take-le, length-drop}
+use Rattle.std.proofs.lemmas.List.{length-map, take-map, drop-map, get_or-take, get_or-drop, length-take-le, length-drop, append-nil, take_at, drop_at}
 use Rattle.std.proofs.Math.Nat.{div-mul-le_self, lt-div-mul-add}
 use Rattle.std.proofs.lemmas.Nat.{pow_pos}
 use Rattle.std.specs.List.Sorted.{IsStrictlyIncreasing}
@@ -9,7 +9,8 @@ use Rattle.constriction_model.specs.Rows.{Row, RowsTile}
 use Rattle.constriction_model.specs.Probe.{IsSearchable, IsLastAtMost, IsRowIndexOf}
 use Rattle.constriction_model.specs.private.Searching.{TellsRows}
 use Rattle.constriction_stored_rows.specs.Slots.{slot_width, slot_count}
-use Rattle.constriction_stored_rows.specs.SlotTable.{words_a_slot, HasSlots, IsSlot, IsSlotPart}
+use Rattle.constriction_stored_rows.specs.Stored.{with_total}
+use Rattle.constriction_stored_rows.specs.SlotTable.{words_a_slot, HasSlots, MayFollow, BeginsWithSlots, IsSlot, IsSlotPart}
 use Rattle.constriction_stored_rows.specs.lemmas.Stored.{read-whole}
 use Rattle.constriction_model.proofs.Halving.{later}
 use Rattle.constriction_stored_rows.proofs.SlotFilling.{slot-within, slot-below}
@@ -148,6 +149,26 @@ slot-part lefts width slot first last s =
       long = omega arith;
       in_order = ap (λ n. take n (drop first lefts)) (sym long);
     }
+
+-- a lookup table: the words of the slots, and what may follow them
+pub begins-slots : (bits precision width count : ℕ) (lefts slots rest table : List ℕ) → HasSlots width count lefts slots
+    → table ≡ slots ++ rest → MayFollow bits precision lefts rest → BeginsWithSlots bits precision width count lefts table
+begins-slots bits precision width count lefts slots rest table s e follows = record {
+  slots = rw (e, take_at slots rest (words_a_slot width * count) s.long) s;
+  rest = rw (e, drop_at slots rest (words_a_slot width * count) s.long) follows;
+}
+
+-- nothing follows them
+pub begins-alone : (bits precision width count : ℕ) (lefts slots : List ℕ) → HasSlots width count lefts slots
+    → BeginsWithSlots bits precision width count lefts slots
+begins-alone bits precision width count lefts slots s =
+    begins-slots bits precision width count lefts slots [] slots s (sym (append-nil slots)) (λ some. absurd (omega (arith, some)))
+
+-- the left cumulatives and the total follow them
+pub begins-followed : (bits precision width count : ℕ) (lefts slots table : List ℕ) → HasSlots width count lefts slots
+    → table ≡ slots ++ with_total bits precision lefts → BeginsWithSlots bits precision width count lefts table
+begins-followed bits precision width count lefts slots table s e =
+    begins-slots bits precision width count lefts slots (with_total bits precision lefts) table s e (λ _. refl)
 
 module _ (lefts : List ℕ) (up : IsStrictlyIncreasing lefts) (width slot first : ℕ) (known : List ℕ)
     (p : IsSlotPart lefts width slot first known) where

@@ -79,3 +79,48 @@ returns-clause-order g c =
     let width : ℕ = slot_width g.row.PRECISION g.row.SLOT_BITS in
     slot-order (map g.Kind.CdfEntry.cumulative c.args.entries.now) width (g.Kind.Word.WholeNumber.whole c.args.quantile / width) _ _
     (returns-clause-slot g c)
+
+pub slot_of_quantile-slot-requires-clause-narrow : goal.slot_of_quantile-slot-requires-clause-narrow
+slot_of_quantile-slot-requires-clause-narrow g c = c.requires.narrow
+
+pub slot_of_quantile-slot-requires-clause-below : goal.slot_of_quantile-slot-requires-clause-below
+slot_of_quantile-slot-requires-clause-below g c = c.requires.below
+
+pub offset_bounds-table-slot : goal.offset_bounds-table-slot
+offset_bounds-table-slot g c =
+    let within =
+    alone-within g.Kind.Word.WholeNumber.whole g.Kind.CdfEntry.cumulative c.args.entries.now c.args.table.now _ _ _ c.requires.slots
+    c.slot_of_quantile-slot.ensures.below
+    (omega (arith, c.width_of_slots.ensures, c.if-width_of_slots-eq1.true)) in
+    omega (arith, within)
+
+pub returns-then-width_of_slots-eq1-clause-order : goal.returns-then-width_of_slots-eq1-clause-order
+returns-then-width_of_slots-eq1-clause-order g c = omega arith
+
+pub overflow_mul-slot : goal.overflow_mul-slot
+overflow_mul-slot g c =
+    let within = pair-within g.Kind.Word.WholeNumber.whole g.Kind.CdfEntry.cumulative c.args.entries.now c.args.table.now _ _ _ c.requires.slots
+    c.slot_of_quantile-slot.ensures.below
+    (omega (arith, pow_pos (g.row.PRECISION - g.row.SLOT_BITS), c.width_of_slots.ensures, c.if-width_of_slots-eq1.false)) in
+    omega (arith, within)
+
+pub offset_bounds-table-slot-2 : goal.offset_bounds-table-slot-2
+offset_bounds-table-slot-2 g c =
+    let within = pair-within g.Kind.Word.WholeNumber.whole g.Kind.CdfEntry.cumulative c.args.entries.now c.args.table.now _ _ _ c.requires.slots
+    c.slot_of_quantile-slot.ensures.below
+    (omega (arith, pow_pos (g.row.PRECISION - g.row.SLOT_BITS), c.width_of_slots.ensures, c.if-width_of_slots-eq1.false)) in
+    omega (arith, within)
+
+pub overflow_mul-slot-2 : goal.overflow_mul-slot-2
+overflow_mul-slot-2 g c =
+    let within = pair-within g.Kind.Word.WholeNumber.whole g.Kind.CdfEntry.cumulative c.args.entries.now c.args.table.now _ _ _ c.requires.slots
+    c.slot_of_quantile-slot.ensures.below
+    (omega (arith, pow_pos (g.row.PRECISION - g.row.SLOT_BITS), c.width_of_slots.ensures, c.if-width_of_slots-eq1.false)) in
+    omega (arith, within)
+
+pub overflow_add-slot : goal.overflow_add-slot
+overflow_add-slot g c =
+    let within = pair-within g.Kind.Word.WholeNumber.whole g.Kind.CdfEntry.cumulative c.args.entries.now c.args.table.now _ _ _ c.requires.slots
+    c.slot_of_quantile-slot.ensures.below
+    (omega (arith, pow_pos (g.row.PRECISION - g.row.SLOT_BITS), c.width_of_slots.ensures, c.if-width_of_slots-eq1.false)) in
+    omega (arith, within)
