@@ -1,14 +1,14 @@
 -- The ends of rows, as words. A row's weight is its end minus its left cumulative.
-use Rattle.std.proofs.Common.{◌≡◌, ℕ, ◌+◌, ◌-◌, ◌%◌, ◌^◌, ◌<◌, ◌≤◌, List, [], ◌∷◌, length, get_or, map, nat_lt, ap, sym, refl, ◌∙◌, arith, inl, inr}
+use Rattle.std.proofs.Common.{◌≡◌, ℕ, ◌+◌, ◌-◌, ◌%◌, ◌^◌, ◌<◌, ◌≤◌, List, [], ◌∷◌, ◌++◌, length, get_or, map, take, nat_lt, ap, sym, refl, ◌∙◌, arith, inl, inr}
 use Rattle.std.proofs.Math.Nat.{mod-eq_of_lt, mod-lt, pow-le-pow_right}
 use Rattle.std.proofs.lemmas.Bool.{cases_lt}
 use Rattle.std.proofs.lemmas.Bool.Decides.{nat_tests}
 use Rattle.std.specs.Int.{from_bool}
 use Rattle.std.proofs.lemmas.Nat.{pow_pos}
-use Rattle.std.proofs.lemmas.List.{length-append, length-map, get_or_append_left, get_or-append_right, get_or_default, get_or_past}
+use Rattle.std.proofs.lemmas.List.{length-append, length-map, get_or_append_left, get_or-append_right, get_or_default, get_or_past, append_assoc, map_push, map_more}
 use Rattle.constriction_model.proofs.Differences.{difference-mod}
 use Rattle.constriction_stored_rows.specs.Stored.{IsStored, AreEndWords, end_at, total_of, with_total, weights_of}
-use Rattle.constriction_stored_rows.specs.lemmas.Stored.{stored-row, read-whole}
+use Rattle.constriction_stored_rows.specs.lemmas.Stored.{stored-row, read-whole, take-length}
 
 module _ (bits precision : ℕ) (lefts : List ℕ) where
   -- a row ends where the next row begins
@@ -68,6 +68,51 @@ module _ (bits precision : ℕ) (lefts : List ℕ) where
     pub among-end : (i : ℕ) (x : Word) → i < length lefts → x ≡ get_or cdf (i + 1) x → whole x ≡ end_at bits precision lefts i
     among-end i x h is =
         sym (read-whole whole cdf (i + 1) x (omega (arith, among-long)) is) ∙ ap (λ ns. get_or ns (i + 1) 0) e ∙ end-in i h
+
+-- with one or two rows, the end words are the ends of the first and of the last row
+pub end_words-few : (bits precision : ℕ) (lefts : List ℕ) (first last : ℕ) → length lefts ≤ 2 → first ≡ end_at bits precision lefts 0
+    → last ≡ total_of bits precision → AreEndWords bits precision lefts (first ∷ last ∷ [])
+end_words-few bits precision lefts first last few is is_last = record {
+  two = refl;
+  ends = λ _. ap (λ n. n ∷ last ∷ []) is ∙ ap (λ n. end_at bits precision lefts 0 ∷ n ∷ []) is_last;
+  fits = λ many. absurd (omega arith);
+  leads = λ many. absurd (omega arith);
+  none = λ many. absurd (omega arith);
+}
+
+-- with more rows, the first one is the last left cumulative minus the total, and the second one is 0
+pub end_words-many : (bits precision : ℕ) (lefts : List ℕ) (first none : ℕ) → 2 < length lefts → first < 2 ^ bits
+    → (first + total_of bits precision) % 2 ^ bits ≡ get_or lefts (length lefts - 1) 0 → none ≡ 0
+    → AreEndWords bits precision lefts (first ∷ none ∷ [])
+end_words-many bits precision lefts first none many range difference is =
+    let turned : total_of bits precision + first ≡ first + total_of bits precision = omega arith in
+    record {
+      two = refl;
+      ends = λ few. absurd (omega arith);
+      fits = λ _. range;
+      leads = λ _. ap (λ n. n % 2 ^ bits) turned ∙ difference;
+      none = λ _. is;
+    }
+
+-- the left cumulatives of the entries so far, and of one more
+pub pushed-left : {Word Entry : Type 0} (whole : Word → ℕ) (left_of : Entry → ℕ) (before : List ℕ) (all more : List Word) (entries : List Entry)
+    (i : ℕ) (w : Word) (x : Entry) → map whole all ≡ before ++ map left_of (take i entries) → more ≡ all ++ w ∷ [] → i < length entries
+    → x ≡ get_or entries i x → whole w ≡ left_of x → map whole more ≡ before ++ map left_of (take (i + 1) entries)
+pushed-left whole left_of before all more entries i w x so_far pushed h is reads =
+    ap (map whole) pushed ∙ map_push whole all w ∙ ap (λ ns. ns ++ whole w ∷ []) so_far
+    ∙ append_assoc before (map left_of (take i entries)) (whole w ∷ [])
+    ∙ ap (λ n. before ++ (map left_of (take i entries) ++ n ∷ [])) (reads ∙ ap left_of is)
+    ∙ ap (λ ns. before ++ ns) (sym (map_more left_of entries i x h))
+
+-- the left cumulatives of all entries, and then the total
+pub pushed-total : {Word Entry : Type 0} (whole : Word → ℕ) (left_of : Entry → ℕ) (bits precision : ℕ) (before : List ℕ) (all more : List Word)
+    (entries : List Entry) (i : ℕ) (w : Word) → map whole all ≡ before ++ map left_of (take i entries) → i ≡ length entries → more ≡ all ++ w ∷ []
+    → whole w ≡ total_of bits precision → map whole more ≡ before ++ with_total bits precision (map left_of entries)
+pushed-total whole left_of bits precision before all more entries i w so_far end pushed is =
+    ap (map whole) pushed ∙ map_push whole all w
+    ∙ ap (λ ns. ns ++ whole w ∷ []) (so_far ∙ ap (λ xs. before ++ map left_of xs) (ap (λ n. take n entries) end ∙ take-length entries))
+    ∙ append_assoc before (map left_of entries) (whole w ∷ [])
+    ∙ ap (λ n. before ++ (map left_of entries ++ n ∷ [])) is
 
 -- the entry by which a row ends, and the end word beside it: those after the first ones, except at the last row
 pub entry_ending-within : (i n r : ℕ) → i < n → r ≡ from_bool (nat_lt i (n - 1)) → (r ≤ 1) × (i + r < n)

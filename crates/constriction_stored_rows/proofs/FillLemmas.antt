@@ -1,6 +1,6 @@
 -- Filling a cdf row by row.
 use Rattle.std.specs.Prelude.{◌≡◌, ℕ, ◌+◌, ◌-◌, ◌%◌, ◌^◌, ◌<◌, ◌≤◌, ◌⊎◌, Bool, true, false, List, [], ◌∷◌, ◌++◌, length, map, sum, All, Option, Some, None}
-use Rattle.std.proofs.Common.{suc, zero, refl, ap, sym, ◌∙◌, arith, inl, inr}
+use Rattle.std.proofs.Common.{Result, Ok, Err, suc, zero, refl, ap, sym, ◌∙◌, arith, inl, inr}
 use Rattle.std.proofs.Math.Nat.{mod-eq_of_lt, mod_self}
 use Rattle.std.proofs.lemmas.Bool.{cases_lt}
 use Rattle.std.proofs.lemmas.List.{map-append, length-append, length-map, length_push, get_or_append_left}
@@ -12,6 +12,15 @@ use Rattle.constriction_stored_rows.specs.Stored.{lefts_from, total_of}
 use Rattle.constriction_stored_rows.specs.private.Filling.{AreNotTaken, IsBegun, IsFilled, IsRowEnd}
 use Rattle.constriction_stored_rows.specs.private.Given.{GaveGood}
 use Rattle.constriction_stored_rows.specs.Ends.{FillsAll, IsNoLast, IsNoneInferred, IsCdfOf}
+use Rattle.constriction_model.specs.declared.error.ModelError.{ModelError}
+use Rattle.constriction_model.specs.declared.error.ModelError.TheVariants.{InvalidTable, OutOfMemory}
+
+-- results that differ
+pub accepted≢refused : {T : Type 0} (x : T) (error : ModelError) → Ok x ≡ Err error → ⊥
+accepted≢refused x error e = cc
+
+pub table≢memory : {T : Type 0} (r : Result T ModelError) → r ≡ Err InvalidTable → r ≡ Err OutOfMemory → ⊥
+table≢memory r table memory = cc
 
 -- one left cumulative more
 pub lefts_from-push : (l : ℕ) (ws : List ℕ) (w : ℕ) → lefts_from l (ws ++ w ∷ []) ≡ lefts_from l ws ++ (l + sum ws) ∷ []

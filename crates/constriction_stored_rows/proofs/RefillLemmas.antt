@@ -14,6 +14,10 @@ use Rattle.constriction_stored_rows.specs.Stored.{lefts_from}
 use Rattle.constriction_stored_rows.specs.private.Given.{GaveGood, GaveBad}
 use Rattle.constriction_stored_rows.proofs.FillLemmas.{lefts_from-push}
 
+-- the only item of a list that had none
+pub one_pushed : {A : Type 0} (none all : List A) (x : A) → none ≡ [] → all ≡ none ++ x ∷ [] → all ≡ x ∷ []
+one_pushed none all x is pushed = pushed ∙ ap (λ xs. xs ++ x ∷ []) is
+
 -- a reader read the copied words of a slice
 module _ {A : Type 0} (it : Copied (Iter A)) (all : List A) (e : iter_rest (copied_source it) ≡ all) (Good : List A → Type 0) where
   pub slice-good : GaveGood (copies fronts) it Good → Good all

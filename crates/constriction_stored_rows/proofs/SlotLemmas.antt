@@ -1,5 +1,5 @@
 -- The rows that meet a slot.
-use Rattle.std.proofs.Common.{◌≡◌, ℕ, ◌+◌, ◌-◌, ◌*◌, ◌/◌, ◌^◌, ◌<◌, ◌≤◌, List, [], ◌++◌, length, get_or, map, take, drop, refl, ap, sym, subst, ◌∙◌, arith, inl, inr}
+use Rattle.std.proofs.Common.{◌≡◌, ℕ, ◌+◌, ◌-◌, ◌*◌, ◌/◌, ◌^◌, ◌<◌, ◌≤◌, ◌⊎◌, List, [], ◌++◌, length, get_or, map, take, drop, refl, ap, sym, subst, ◌∙◌, arith, inl, inr}
 use Rattle.std.proofs.lemmas.Bool.{cases_lt}
 use Rattle.std.proofs.lemmas.List.{length-map, take-map, drop-map, get_or-take, get_or-drop, length-take-le, length-drop, append-nil, take_at, drop_at}
 use Rattle.std.proofs.Math.Nat.{div-mul-le_self, lt-div-mul-add}
@@ -41,6 +41,62 @@ slot_only precision slot_bits q lefts first last same s = record {
   at_most = omega (arith, s.from.at_most, slot-from precision slot_bits q);
   last = λ j a b. omega (arith, s.to.last j (omega arith) b, slot-to precision slot_bits q);
 }
+
+-- a comparison adds 1 if the row begins after the quantile, else 0
+added : (left q one : ℕ) → (left ≤ q → one ≡ 0) → (q < left → one ≡ 1) → ((left ≤ q) × (one ≡ 0)) ⊎ ((q < left) × (one ≡ 1))
+added left q one at_most above = elim (cases_lt q left) [ | inl less ↦ inr (less, above less) | inr not ↦ inl (not, at_most not) ]
+
+-- if at most three rows meet the slot of a quantile, two comparisons find the quantile's row
+module _ (precision slot_bits q : ℕ) (lefts : List ℕ) (up : IsStrictlyIncreasing lefts) (first last : ℕ)
+    (s : IsSlot lefts (slot_width precision slot_bits) (q / slot_width precision slot_bits) first last) where
+  -- the row that begins at the quantile or below it, and before a row of the slot that begins after it
+  row-here : (i : ℕ) → i ≤ last → get_or lefts i 0 ≤ q → (i < last → q < get_or lefts (i + 1) 0) → IsLastAtMost lefts q i
+  row-here i within low next = record {
+    in_bounds = omega (arith, s.to.in_bounds);
+    at_most = low;
+    last = λ j more here. elim (cases_lt last j) [
+      | inl past ↦ omega (arith, s.to.last j past here, slot-to precision slot_bits q)
+      | inr inside ↦ elim (cases_lt (i + 1) j) [
+        | inl after ↦ omega (arith, later lefts (i + 1) j up after here, next (omega arith))
+        | inr not ↦ (let is : i + 1 ≡ j = omega arith in rw is at (next (omega arith)))
+      ]
+    ];
+  }
+
+  pub row_of_three : (middle a b : ℕ) → first ≤ last → last ≤ first + 2 → middle ≡ first + (last - first) / 2
+      → (get_or lefts last 0 ≤ q → a ≡ 0) → (q < get_or lefts last 0 → a ≡ 1)
+      → (get_or lefts middle 0 ≤ q → b ≡ 0) → (q < get_or lefts middle 0 → b ≡ 1)
+      → (a + b ≤ last) × IsLastAtMost lefts q (last - (a + b))
+  row_of_three middle a b order few mid last_not last_is middle_not middle_is =
+      let low : get_or lefts first 0 ≤ q = omega (arith, s.from.at_most, slot-from precision slot_bits q) in
+      elim (added (get_or lefts last 0) q a last_not last_is) [
+        | inl below ↦
+            let too : get_or lefts middle 0 ≤ q = elim (cases_lt middle last) [
+              | inl before ↦ omega (arith, later lefts middle last up before s.to.in_bounds, below.0)
+              | inr not ↦ (let is : last ≡ middle = omega arith in rw is at below.0)
+            ] in
+            let is : last - (a + b) ≡ last = omega (arith, below.1, middle_not too) in
+            (omega (arith, below.1, middle_not too), rw is (row-here last (omega arith) below.0 (λ h. absurd (omega arith))))
+        | inr above ↦
+            let apart : first < last = elim (cases_lt first last) [
+              | inl before ↦ before
+              | inr not ↦ (let is : last ≡ first = omega arith in absurd (omega (arith, low, rw is at above.0)))
+            ] in
+            elim (added (get_or lefts middle 0) q b middle_not middle_is) [
+              | inl below ↦
+                  let next : middle + 1 ≡ last = omega arith in
+                  let is : last - (a + b) ≡ middle = omega (arith, above.1, below.1) in
+                  (omega (arith, above.1, below.1), rw is (row-here middle (omega arith) below.0 (λ h. rw next above.0)))
+              | inr both ↦
+                  let more : first < middle = elim (cases_lt first middle) [
+                    | inl before ↦ before
+                    | inr not ↦ (let is : middle ≡ first = omega arith in absurd (omega (arith, low, rw is at both.0)))
+                  ] in
+                  let next : first + 1 ≡ middle = omega arith in
+                  let is : last - (a + b) ≡ first = omega (arith, above.1, both.1) in
+                  (omega (arith, above.1, both.1), rw is (row-here first order low (λ h. rw next both.0)))
+            ]
+      ]
 
 -- what the words of a slot tell, in a table over words
 module _ {W E : Type 0} (whole : W → ℕ) (left_of : E → ℕ) (entries : List E) (table : List W) (width count slot : ℕ)
