@@ -1,6 +1,5 @@
 use Rattle.std.proofs.Common.{sym, arith}
 use Rattle.constriction_model.specs.lemmas.Coding.{entry-within}
-use Rattle.constriction_model.specs.Rows.{entry_of}
 use Rattle.constriction_coders.proofs.stack.ans_coder.AnsCoder.encode_prepared_symbol.Goals as goal
 
 pub put_prepared_entry-requires : goal.put_prepared_entry-requires
