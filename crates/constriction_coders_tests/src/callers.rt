@@ -11,6 +11,7 @@ ghost use Rattle.constriction_coders.specs.Steps.{IsDecoded, IsEncoded};
 
 mod any_coder;
 mod own_models;
+pub mod prepared;
 mod queue;
 mod stack;
 
