@@ -14,6 +14,7 @@ mod own_models;
 pub mod prepared;
 mod queue;
 mod stack;
+mod tables;
 
 use constriction::backends::{Cursor, StackSource, WordStack};
 use constriction::stream::model::{
