@@ -1,5 +1,5 @@
 -- The steps of a search by halving.
-use Rattle.std.proofs.Common.{◌≡◌, ℕ, ◌+◌, ◌-◌, ◌*◌, ◌/◌, ◌^◌, ◌<◌, ◌≤◌, suc, zero, List, length, get_or, arith, inl, inr}
+use Rattle.std.proofs.Common.{◌≡◌, ℕ, ◌+◌, ◌-◌, ◌*◌, ◌/◌, ◌^◌, ◌<◌, ◌≤◌, suc, zero, List, length, get_or, arith, inl, inr, ◌∙◌}
 use Rattle.std.proofs.lemmas.Bool.{cases_lt}
 use Rattle.std.specs.List.Sorted.{IsStrictlyIncreasing}
 use Rattle.constriction_model.proofs.Digits.{digits-zero, digits_between, digits_ones, digits_step, digits_word}
@@ -114,6 +114,25 @@ module _ {P Word : Type 0} (g : Ghosts P Word) (rows : P) (q : Word) where
     pub asked_no : g.number q < get_or (g.cumulatives rows) at 0 → Narrows g rows q size new first left
     asked_no after =
         asked first (narrowed_first _ _ may.searchable first size left may.narrowed h.fewer h.half (rw at_is at after))
+
+  -- a search that came to some rows may go on among them
+  pub goes_on : (first size next left : ℕ) (new : P) → MaySearch g rows q first size → Narrows g rows q size new next left
+      → MaySearch g new q next left
+  goes_on first size next left new may n = record {
+    searchable = rw n.same may.searchable;
+    word = rw n.same may.word;
+    narrowed = n.narrowed;
+    room = omega (arith, may.room, n.counted);
+  }
+
+  -- two searches, the second one among the rows that the first one came to
+  pub in_turn : (size next left last rest : ℕ) (mid new : P) → Narrows g rows q size mid next left → Narrows g mid q left new last rest
+      → Narrows g rows q size new last rest
+  in_turn size next left last rest mid new n m = record {
+    narrowed = m.narrowed;
+    same = m.same ∙ n.same;
+    counted = omega (arith, n.counted, m.counted);
+  }
 
   -- a search of all rows may begin
   pub may_begin : IsSearchable (g.cumulatives rows) (g.number q) → length (g.cumulatives rows) < 2 ^ 64

@@ -8,7 +8,6 @@ use crate::probe::Probe;
 
 /// Halves the rows from `first` on. There are at least two.
 #[inline(always)]
-#[tactic(auto, using(crate::proofs::Halving::halved_step, crate::proofs::Halving::asked_yes, crate::proofs::Halving::asked_no))]
 fn half_of_more<R: Probe>(rows: &mut R, q: R::Word, first: usize, size: usize) -> (usize, usize)
     requires searching { MaySearch R.Probe rows.old q first size }
     requires more { 1 < size }
@@ -122,7 +121,6 @@ fn first_left<R: Probe>(rows: &mut R, q: R::Word, first: usize, size: usize, lef
 
 /// The row among the four from `first` on.
 #[inline(always)]
-#[tactic(auto, using(crate::proofs::Halving::four_halved, crate::proofs::Halving::two_halved))]
 fn row_of_four<R: Probe>(rows: &mut R, q: R::Word, first: usize) -> usize
     requires { MaySearch R.Probe rows.old q first 4 }
     ensures { Narrows R.Probe rows.old q 4 rows.new result 1 }
@@ -133,7 +131,6 @@ fn row_of_four<R: Probe>(rows: &mut R, q: R::Word, first: usize) -> usize
 
 /// The row among the eight from `first` on.
 #[inline(always)]
-#[tactic(auto, using(crate::proofs::Halving::eight_halved))]
 fn row_of_eight<R: Probe>(rows: &mut R, q: R::Word, first: usize) -> usize
     requires { MaySearch R.Probe rows.old q first 8 }
     ensures { Narrows R.Probe rows.old q 8 rows.new result 1 }
@@ -144,7 +141,6 @@ fn row_of_eight<R: Probe>(rows: &mut R, q: R::Word, first: usize) -> usize
 
 /// The row among the sixteen from `first` on.
 #[inline(always)]
-#[tactic(auto, using(crate::proofs::Halving::sixteen_halved))]
 fn row_of_sixteen<R: Probe>(rows: &mut R, q: R::Word, first: usize) -> usize
     requires { MaySearch R.Probe rows.old q first 16 }
     ensures { Narrows R.Probe rows.old q 16 rows.new result 1 }
@@ -159,7 +155,6 @@ fn row_of_sixteen<R: Probe>(rows: &mut R, q: R::Word, first: usize) -> usize
 /// distance from the first row left. The number of questions is chosen once, before the first one,
 /// and nothing is tested between them.
 #[inline(always)]
-#[tactic(auto, using(crate::proofs::Halving::halved_sixteen, crate::proofs::Halving::halved_eight, crate::proofs::Halving::halved_four, crate::proofs::Halving::halved_two, crate::proofs::Halving::two_halved))]
 fn row_of_thirty_two<R: Probe>(rows: &mut R, q: R::Word) -> usize
     requires searching { MaySearch R.Probe rows.old q 0 (length (R.cumulatives rows.old)) }
     requires few { length (R.cumulatives rows.old) ≤ 32 }
@@ -190,7 +185,6 @@ fn row_of_thirty_two<R: Probe>(rows: &mut R, q: R::Word) -> usize
 /// The search halves the rows until one is left. So it asks as many questions as one less than the
 /// number of rows has binary digits, for every `q`.
 #[inline(always)]
-#[tactic(auto, using(crate::proofs::Halving::may_begin, crate::proofs::Halving::found, crate::proofs::Halving::counted_all))]
 pub fn row_of_quantile<R: Probe>(rows: &mut R, q: R::Word) -> usize
     requires searchable { IsSearchable (R.cumulatives rows.old) (R.number q) }
     requires room { R.questions rows.old ≤ usize.MAX - 64 }
@@ -221,7 +215,6 @@ pub fn row_of_quantile<R: Probe>(rows: &mut R, q: R::Word) -> usize
 /// distances, and stays in registers. In a loop, the questions about more than two rows are then
 /// compiled to jumps; outside a loop `FEW` may be 32.
 #[inline(always)]
-#[tactic(auto, using(crate::proofs::Halving::may_begin, crate::proofs::Halving::found))]
 pub fn row_in_probe<R: Probe + Drop, const FEW: usize>(rows: R, q: R::Word) -> usize
     requires searchable { IsSearchable (R.cumulatives rows) (R.number q) }
     requires room { R.questions rows ≤ usize.MAX - 64 }

@@ -1,0 +1,14 @@
+use Rattle.constriction_model.proofs.Halving.{goes_on, in_turn, sixteen_halved}
+use Rattle.constriction_model.proofs.search.row_of_sixteen.Goals as goal
+
+pub first_left-half-requires-clause-searching : goal.first_left-half-requires-clause-searching
+first_left-half-requires-clause-searching g c = c.requires
+
+pub first_left-half-requires-clause-halved : goal.first_left-half-requires-clause-halved
+first_left-half-requires-clause-halved g c = sixteen_halved
+
+pub row_of_eight-requires : goal.row_of_eight-requires
+row_of_eight-requires g c = goes_on g.R.Probe _ _ _ _ _ _ _ c.requires c.first_left-half.ensures
+
+pub returns : goal.returns
+returns g c = in_turn g.R.Probe _ _ _ _ _ _ _ _ _ c.first_left-half.ensures c.row_of_eight.ensures
