@@ -44,7 +44,7 @@ slot_only precision slot_bits q lefts first last same s = record {
 
 -- a comparison adds 1 if the row begins after the quantile, else 0
 added : (left q one : ℕ) → (left ≤ q → one ≡ 0) → (q < left → one ≡ 1) → ((left ≤ q) × (one ≡ 0)) ⊎ ((q < left) × (one ≡ 1))
-added left q one at_most above = elim (cases_lt q left) [ | inl less ↦ inr (less, above less) | inr not ↦ inl (not, at_most not) ]
+added left q one at_most above = elim (cases_lt q left) [ inl less ↦ inr (less, above less) | inr not ↦ inl (not, at_most not) ]
 
 -- if at most three rows meet the slot of a quantile, two comparisons find the quantile's row
 module _ (precision slot_bits q : ℕ) (lefts : List ℕ) (up : IsStrictlyIncreasing lefts) (first last : ℕ)

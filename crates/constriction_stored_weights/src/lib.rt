@@ -1,4 +1,4 @@
-//! Stored weights: the number of weights and then the weights, as words; a table of weights as a few
+//! Stored weights: the number of weights and then the weights, as words; a table of weights as
 //! bytes.
 #![tactic(auto)]
 

@@ -16,5 +16,5 @@ mod symbol_table;
 mod words;
 
 pub use crate::entry::TableEntry;
-pub use crate::symbol_table::DirectSymbolTable;
 pub use crate::model::{DirectTableModel, SmallDirectTableModel, WideDirectTableModel};
+pub use crate::symbol_table::DirectSymbolTable;

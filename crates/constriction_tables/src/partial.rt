@@ -23,11 +23,7 @@ pub(crate) fn entry_at(list: &[(u32, u32)], index: usize) -> (u32, u32)
 
 /// Writes an entry at an index of a list, which grows if it ends before that.
 #[inline]
-fn list_entry(
-    list: &mut Vec<(u32, u32)>,
-    index: usize,
-    entry: (u32, u32),
-) -> Result<(), AllocError>
+fn list_entry(list: &mut Vec<(u32, u32)>, index: usize, entry: (u32, u32)) -> Result<(), AllocError>
     requires { index < 65536 }
     ensures { OnOk result ((k : ℕ) → slice_index_or list.new.items k (0, 0)
         ≡ cond (nat_eq index k) entry (slice_index_or list.old.items k (0, 0))) }

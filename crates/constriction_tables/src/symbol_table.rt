@@ -31,7 +31,8 @@ impl<'m, Entry: TableEntry> Iterator for DirectSymbolTable<'m, Entry> {
         ⟦<u32 as WholeNumber>⟧.base
         (λ t. rows_after t.from (map Entry.row_in t.entries.now)) };
 
-    ghost remaining = { λ t. at_most (length (rows_after t.from (map Entry.row_in t.entries.now))) };
+    ghost remaining = { λ t.
+        at_most (length (rows_after t.from (map Entry.row_in t.entries.now))) };
 
     #[inline]
     fn next(&mut self) -> Option<Result<(Entry::Symbol, u32, Weight<u32>), AllocError>> {

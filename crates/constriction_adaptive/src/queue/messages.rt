@@ -137,7 +137,8 @@ where
         → (first : P.State) (symbols : List P.Symbol) (message more : List ℕ)
         → P.state predictor.old ≡ first → length symbols ≡ count
         → IsMessageFrom (predicted_entry P.rows P.Model.symbol_eq) P.next PRECISION first symbols
-        message → All (λ w. w < 2 ^ 32) more → words.now ≡ message ++ more → answers.items ≡ symbols) }
+        message → All (λ w. w < 2 ^ 32) more → words.now ≡ message ++ more
+        → answers.items ≡ symbols) }
     ensures valid { result ≡ Err DecoderFrontendError.InvalidData
         → (first : P.State) (symbols : List P.Symbol) (message more : List ℕ)
         → P.state predictor.old ≡ first → length symbols ≡ count

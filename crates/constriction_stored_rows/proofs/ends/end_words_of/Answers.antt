@@ -35,6 +35,9 @@ returns g c =
     let long : length lefts ≡ length entries = length-map entries known in
     let last : length lefts - 1 ≡ length entries - 1 = omega (arith, long) in
     end_words-many g.Word.WholeNumber.BITS g.row.PRECISION lefts _ _ (omega arith) c.wrapping_minus.ensures.range
-    (rw (last, get_or-map known entries (length entries - 1) c.index-entries-rows.result 0 (omega arith),
-      ← c.wrapping_pow2-total.ensures) c.wrapping_minus.ensures.difference)
+    (rw (
+      last,
+      get_or-map known entries (length entries - 1) c.index-entries-rows.result 0 (omega arith),
+      ← c.wrapping_pow2-total.ensures,
+    ) c.wrapping_minus.ensures.difference)
     c.least.ensures

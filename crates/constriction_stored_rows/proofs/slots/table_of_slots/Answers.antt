@@ -32,8 +32,8 @@ pub returns-then-this-eq0 : goal.returns-then-this-eq0
 returns-then-this-eq0 g c =
     IfOk-weaker c.slots_of.result _ _
     (λ t s. begins-alone g.Kind.Word.WholeNumber.BITS g.row.PRECISION (slot_width g.row.PRECISION g.row.SLOT_BITS)
-      (slot_count g.row.PRECISION g.row.SLOT_BITS) (map g.Kind.CdfEntry.cumulative c.args.entries.now)
-      (map g.Kind.Word.WholeNumber.whole t.items) s)
+    (slot_count g.row.PRECISION g.row.SLOT_BITS) (map g.Kind.CdfEntry.cumulative c.args.entries.now)
+    (map g.Kind.Word.WholeNumber.whole t.items) s)
     c.slots_of.ensures
 
 pub with_cdf-requires : goal.with_cdf-requires
@@ -43,6 +43,6 @@ pub returns : goal.returns
 returns g c =
     IfOk-weaker c.with_cdf.result _ _
     (λ t e. begins-followed g.Kind.Word.WholeNumber.BITS g.row.PRECISION (slot_width g.row.PRECISION g.row.SLOT_BITS)
-      (slot_count g.row.PRECISION g.row.SLOT_BITS) (map g.Kind.CdfEntry.cumulative c.args.entries.now)
-      (map g.Kind.Word.WholeNumber.whole c.in_ok-slots.slots.items) (map g.Kind.Word.WholeNumber.whole t.items) c.in_ok-slots.ensures e)
+    (slot_count g.row.PRECISION g.row.SLOT_BITS) (map g.Kind.CdfEntry.cumulative c.args.entries.now)
+    (map g.Kind.Word.WholeNumber.whole c.in_ok-slots.slots.items) (map g.Kind.Word.WholeNumber.whole t.items) c.in_ok-slots.ensures e)
     c.with_cdf.ensures

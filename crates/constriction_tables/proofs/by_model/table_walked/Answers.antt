@@ -31,8 +31,7 @@ pub rows-preserved : goal.rows-preserved
 rows-preserved g c =
     let M = g.met.M.IterableEntropyModel in
     let inv = c.rows.invariant in
-    let next = c.in-Some.ensures.goes.on inv.1 in
-    (
+    let next = c.in-Some.ensures.goes.on inv.1 in (
       next.0,
       next.1,
       _,

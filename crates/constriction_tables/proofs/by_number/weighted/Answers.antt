@@ -26,22 +26,22 @@ loop-number-preserved g c =
     let more = sum_by_more (λ x. x) ws i 0 c.loop-number-test.true in
     elim c.if-weight-gt0.branch [
       | then-weight-gt0+in_ok-take_row w ↦ record {
-          held = rw w.table-is
-              (subst (λ (rs : List (Row g.row.Entry-Symbol.Denot)). HoldsTable g.Entry.TableEntry.number g.Entry.TableEntry.row_in
-              g.Entry.TableEntry.ROW_BITS w.take_row.new.self.entries.items w.take_row.new.self.by_symbol.items rs)
-              (weighted-more g.Entry.TableEntry.symbol_of ws i c.loop-number-test.true w.from_index.result c.loop-number.left
-              w.if-weight-gt0.true w.from_index.ensures c.loop-number.invariant.total)
-              (w.in_ok-take_row.ensures.held refl _ c.loop-number.invariant.held));
-          total = omega (arith, more, w.left-is, c.loop-number.invariant.total);
-          within = omega (arith, w.left-is, c.if-weight-total.false, c.quantiles-total.ensures.value, c.loop-number.invariant.within);
-        }
+        held = rw w.table-is
+            (subst (λ (rs : List (Row g.row.Entry-Symbol.Denot)). HoldsTable g.Entry.TableEntry.number g.Entry.TableEntry.row_in
+            g.Entry.TableEntry.ROW_BITS w.take_row.new.self.entries.items w.take_row.new.self.by_symbol.items rs)
+            (weighted-more g.Entry.TableEntry.symbol_of ws i c.loop-number-test.true w.from_index.result c.loop-number.left
+            w.if-weight-gt0.true w.from_index.ensures c.loop-number.invariant.total)
+            (w.in_ok-take_row.ensures.held refl _ c.loop-number.invariant.held));
+        total = omega (arith, more, w.left-is, c.loop-number.invariant.total);
+        within = omega (arith, w.left-is, c.if-weight-total.false, c.quantiles-total.ensures.value, c.loop-number.invariant.within);
+      }
       | else-weight-gt0 w ↦ record {
-          held = rw w.table-is
-              (subst (λ (rs : List (Row g.row.Entry-Symbol.Denot)). HoldsTable g.Entry.TableEntry.number g.Entry.TableEntry.row_in
-              g.Entry.TableEntry.ROW_BITS c.loop-number.table.entries.items c.loop-number.table.by_symbol.items rs)
-              (weighted-same g.Entry.TableEntry.symbol_of ws i c.loop-number-test.true (omega (arith, w.if-weight-gt0.false)))
-              c.loop-number.invariant.held);
-          total = omega (arith, more, w.left-is, c.loop-number.invariant.total, w.if-weight-gt0.false);
-          within = omega (arith, w.left-is, c.loop-number.invariant.within);
-        }
+        held = rw w.table-is
+            (subst (λ (rs : List (Row g.row.Entry-Symbol.Denot)). HoldsTable g.Entry.TableEntry.number g.Entry.TableEntry.row_in
+            g.Entry.TableEntry.ROW_BITS c.loop-number.table.entries.items c.loop-number.table.by_symbol.items rs)
+            (weighted-same g.Entry.TableEntry.symbol_of ws i c.loop-number-test.true (omega (arith, w.if-weight-gt0.false)))
+            c.loop-number.invariant.held);
+        total = omega (arith, more, w.left-is, c.loop-number.invariant.total, w.if-weight-gt0.false);
+        within = omega (arith, w.left-is, c.loop-number.invariant.within);
+      }
     ]

@@ -38,7 +38,7 @@ returns g c =
     record {
       ok = (
         subst (λ (rs : List (Row g.row.Entry-Symbol.Denot)).
-        StandForRows g.M.IterableEntropyModel.stands_for rs (g.M.EntropyModel.rows c.args.model)) (sym rows) ok.1,
+            StandForRows g.M.IterableEntropyModel.stands_for rs (g.M.EntropyModel.rows c.args.model)) (sym rows) ok.1,
         c.model_of.result.distinct,
       );
       invalid = λ is. absurd (made-unrefused _ _ is);
