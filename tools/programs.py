@@ -136,6 +136,22 @@ def prove(crates, folder):
         return file.read() if ran.wait() else ""
 
 
+def flags_over(names, built):
+    """Returns the flags of rt that name libraries, and those below them, which `rt ci` built in a folder."""
+    below = {it: f"{built}/crates/{it}/out/rlib" for it in lines_below(names)}
+    named = [f"{it}={below[it]}/{it}.rlib" for it in names if it in below]
+    return [it for path in below.values() for it in ("-L", f"dependency={path}")] + [it for name in named for it in ("--extern", name)]
+
+
+def copy_alone(crate, built, folder):
+    """Copies a crate for `rt check` over the libraries that `rt ci` built in a folder, and returns the flags that name them."""
+    line, below = lines_below([crate])[crate], {*lines_below([crate])} - {crate}
+    copy_crates({crate: " ".join(it for it in line.split() if it not in below)}, folder)
+    # with a folder of its own for what it keeps, rt takes none that another check kept
+    os.makedirs(f"{folder}/crates/{crate}/out/incremental")
+    return flags_over([it for it in line.split()[1:] if it in below], built)
+
+
 def add_tried(crate, is_alone):
     """Puts the tests in tried/ into src/ of a copy of their crate: alone, with those of src/ that their root names, or beside all of these."""
     tried = files_below(f"crates/{os.path.basename(crate)}/tried", ".rt.txt")
