@@ -5,9 +5,10 @@ ghost use Rattle.std.specs.Prelude.{◌≡◌, ◌^◌, ◌<◌, IfSome, length}
 ghost use Rattle.std.specs.List.{AllZip};
 ghost use Rattle.constriction.specs.Coding.{StandsForEqual};
 ghost use Rattle.constriction.specs.Precision.{IsPrecision};
+ghost use Rattle.constriction_coders.specs.AnsCoder.{held_by};
 
 use constriction::stream::model::{DecoderModel, EncoderModel, EntropyModel, Weight};
-use constriction_coders::laws::symbols_come_back;
+use constriction_coders::laws::{plain_bits_come_back, symbols_come_back};
 use constriction_coders::stack::{AnsCoder, PreparedEntry, PreparedModel};
 use constriction_coders::{Decode, decode_two};
 use std::alloc::AllocError;
@@ -134,12 +135,14 @@ where
     }
 }
 
-/// A number of `count` bits is taken as it was put.
+/// A number of `count` bits is taken as it was put, and the coder holds what it held before.
 pub fn through_bits(coder: &mut AnsCoder<Vec<u32>>, count: u32, bits: u32) -> Option<u32>
     requires count { IsPrecision 32 count }
     requires fits { bits < 2 ^ count }
-    ensures { IfSome result (λ again. again ≡ bits) }
+    ensures value { IfSome result (λ again. again ≡ bits) }
+    ensures held { IfSome result (λ _. held_by coder.new ≡ held_by coder.old) }
 {
+    plain_bits_come_back();
     match coder.put_bits(count, bits) {
         Ok(()) => {}
         Err(_) => return None,
