@@ -1,7 +1,7 @@
 -- Tables of the rows that a walk gives.
-use Rattle.std.specs.Prelude.{◌≡◌, ℕ, ◌+◌, ◌^◌, ◌<◌, ◌≤◌, Bool, true, List, [], ◌∷◌, ◌++◌, length, map, sum, Contains, Option, Some, None, Result, Ok}
+use Rattle.std.specs.Prelude.{◌≡◌, ℕ, ◌^◌, ◌<◌, Bool, true, List, [], ◌∷◌, ◌++◌, length, map, Contains, Some, Result, Ok}
 use Rattle.std.specs.List.{AllZip, IsDistinct, list_any}
-use Rattle.std.proofs.Common.{append_assoc, ap, arith, get_or, refl, subst, sym, ◌∙◌}
+use Rattle.std.proofs.Common.{append_assoc, ap, arith, subst, sym, ◌∙◌}
 use Rattle.std.proofs.Math.Pow.{pow-lt}
 use Rattle.std.proofs.Math.Seq.{get_or-append_seam}
 use Rattle.std.proofs.lemmas.List.{length-append, map-append}

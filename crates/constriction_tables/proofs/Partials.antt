@@ -3,15 +3,14 @@ use Rattle.std.specs.Prelude.{◌≡◌, ℕ, ◌+◌, ◌-◌, ◌^◌, ◌<◌
 use Rattle.std.specs.Cmp.{IsEquivalence}
 use Rattle.std.specs.List.{IsDistinct, list_any}
 use Rattle.std.specs.Option.{option_map, option_or}
-use Rattle.std.proofs.Common.{suc, zero, refl, append-nil, append_assoc, ap, sym, subst, ◌∙◌, arith, eq-eqb, get_or}
+use Rattle.std.proofs.Common.{suc, zero, refl, ap, sym, subst, ◌∙◌, arith, eq-eqb}
 use Rattle.std.proofs.Math.Nat.{pow-le-pow_right}
 use Rattle.std.proofs.lemmas.Bool.{ne_eqb}
 use Rattle.std.proofs.lemmas.List.{length-append, length-map, map-append, reverse-append, take_all}
-use Rattle.std.proofs.lemmas.List.Sums.{sum_by-cons, sum_by-append}
-use Rattle.constriction_model.specs.Rows.{Row, RowsTile, entry_of, rows_from, rows_of, symbols_of}
+use Rattle.std.proofs.lemmas.List.Sums.{sum_by-append}
+use Rattle.constriction_model.specs.Rows.{Row, RowsTile, entry_of, rows_of, symbols_of}
 use Rattle.constriction_model.specs.lemmas.Rows.{entry_of-cons}
 use Rattle.constriction_stored_rows.proofs.ReadLemmas.{distinct-push, none-distinct, rows_from-push}
-use Rattle.constriction_stored_rows.specs.lemmas.Stored.{take-length}
 use Rattle.constriction_tables.specs.Table.{HasEntries, IsTable, entry_by, rows_in_table, same_number, spread}
 use Rattle.constriction_tables.specs.lemmas.Tables.{length-spread, spread-push, table-of}
 use Rattle.constriction_tables.specs.private.Partial.{Fit, HoldsTable}

@@ -17,8 +17,9 @@ use std::alloc::AllocError;
 
 /// A model of symbols that are small numbers, with one entry for each quantile.
 ///
-/// An entry is one word, which holds the row of its quantile, so a look-up is one load and shifts.
-/// A list of left cumulatives and weights by the numbers of symbols serves encoders.
+/// An entry is one word, which holds the row of its quantile, so a look-up
+/// ([`DecoderModel::quantile_function`]) is one load and shifts. A list of left cumulatives and
+/// weights by the numbers of symbols serves encoders.
 #[derive(Drop)]
 pub struct DirectTableModel<Entry: TableEntry, const PRECISION: usize> {
     pub(crate) entries: Vec<Entry>,

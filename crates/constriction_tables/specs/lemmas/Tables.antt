@@ -1,15 +1,14 @@
 -- Tables: the rows in them, and the row of each quantile.
-use Rattle.std.specs.Prelude.{◌≡◌, ℕ, ◌+◌, ◌-◌, ◌^◌, ◌<◌, ◌≤◌, Bool, true, false, cond, nat_eq, List, [], ◌∷◌, ◌++◌, length, map, sum, replicate, All, Contains}
+use Rattle.std.specs.Prelude.{◌≡◌, ℕ, ◌+◌, ◌-◌, ◌^◌, ◌<◌, true, false, nat_eq, List, [], ◌∷◌, ◌++◌, length, map, sum, replicate, All}
 use Rattle.std.specs.Cmp.{IsEquivalence, nat_eq_equiv}
 use Rattle.std.proofs.Common.{suc, zero, get_or, refl, append-nil, append_assoc, ap, sym, subst, ◌∙◌, arith, inl, inr, eq-eqb}
 use Rattle.std.proofs.Math.ListN.{get_or-append}
 use Rattle.std.proofs.lemmas.Bool.{cases_lt, ne_eqb}
-use Rattle.std.proofs.lemmas.List.{get_or-append_right, get_or-replicate, length-append, length-map, length-replicate, map-append}
+use Rattle.std.proofs.lemmas.List.{get_or-append_right, get_or-replicate, length-append, length-map, length-replicate}
 use Rattle.std.proofs.lemmas.List.Elements.{All-head, All-tail}
 use Rattle.std.proofs.lemmas.List.Sums.{sum_by-cons}
 use Rattle.constriction_model.specs.Acceptance.{IsAccepted}
 use Rattle.constriction_model.specs.Rows.{Row, rows_from, rows_of, RowsTile, IsRowOf, symbols_of}
-use Rattle.constriction_model.specs.lemmas.Rows.{weights-rows_from, symbols-rows_from}
 use Rattle.constriction_tables.specs.Table.{spread, rows_begun, rows_in_table, numbered, same_number, IsTable}
 
 -- ---- rows and the places where they stand

@@ -1,5 +1,4 @@
-use Rattle.std.proofs.Common.{◌≡◌, ◌≤◌, ◌<◌, ◌∙◌, arith, Err, false, get_or, length, List, refl, rules, subst, sym, take, true}
-use Rattle.std.specs.Prelude.{sum}
+use Rattle.std.proofs.Common.{◌≡◌, ◌∙◌, arith, Err, false, List, refl, rules, subst, sym, true}
 use Rattle.std.proofs.lemmas.List.Sums.{sum_by_more}
 use Rattle.constriction_model.specs.declared.error.ModelError.TheVariants.{InvalidTable}
 use Rattle.constriction_model.specs.Rows.{Row}
