@@ -1,5 +1,5 @@
-//! Stored weights: the number of weights and then the weights, as words; a table of weights as
-//! bytes.
+//! Stored weights: the number of weights and then the weights, as words; a table of weights as a
+//! few bytes.
 #![tactic(auto)]
 
 ghost use Rattle.std.specs.Prelude.{◌≡◌, ◌≢◌, [], ◌∷◌, ◌++◌, ◌+◌, ◌*◌, ◌^◌, ◌≤◌, length, map, Err, IfOk, IfErr, OnOk, vec_capacity};
