@@ -19,5 +19,5 @@ returns-in-Ok-clause-back g c = λ first bytes message more begins small long se
 pub returns-in-Err-Frontend-clause-valid : goal.returns-in-Err-Frontend-clause-valid
 returns-in-Err-Frontend-clause-valid g c = λ is first bytes begins long read.
     let same : c.in-Err-Frontend.error ≡ InvalidData = cc in
-    (rw begins at c.in-Err-Frontend.ensures.valid) (ap (λ e. Err (Frontend e)) same) bytes c.args.words.now long read
+    (rw begins at c.in-Err-Frontend.ensures.valid) (ap Err (c.in-Err-Frontend.field-0-is ∙ ap Frontend same)) bytes c.args.words.now long read
     (sym c.new_at_write_beginning-source.ensures.ahead)

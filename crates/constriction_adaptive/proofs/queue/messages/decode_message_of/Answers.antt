@@ -18,4 +18,4 @@ pub returns-in-Err-Frontend-clause-valid : goal.returns-in-Err-Frontend-clause-v
 returns-in-Err-Frontend-clause-valid g c = λ is first symbols message more begins long sent fit words.
     let known = sym (c.new_at_write_beginning-source.ensures.ahead ∙ words) in
     let same : c.in-Err-Frontend.error ≡ InvalidData = cc in
-    (rw begins at c.in-Err-Frontend.ensures.valid) (ap (λ e. Err (Frontend e)) same) symbols message more long sent fit known
+    (rw begins at c.in-Err-Frontend.ensures.valid) (ap Err (c.in-Err-Frontend.field-0-is ∙ ap Frontend same)) symbols message more long sent fit known
