@@ -1,4 +1,4 @@
-use Rattle.std.proofs.Common.{◌≡◌, ◌-◌, ◌∙◌, length, map, ap, sym, arith}
+use Rattle.std.proofs.Common.{◌≡◌, ◌-◌, ◌∙◌, length, map, sym, arith}
 use Rattle.std.proofs.lemmas.List.{length-map, get_or-map}
 use Rattle.constriction_stored_rows.proofs.EndLemmas.{end-next, end-last, end_words-few, end_words-many}
 use Rattle.constriction_stored_rows.proofs.ends.end_words_of.Goals as goal
