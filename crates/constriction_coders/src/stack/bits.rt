@@ -62,8 +62,8 @@ impl<Backend: WordStack<u32>> AnsCoder<Backend> {
 impl<Backend: StackSource<u32>> AnsCoder<Backend> {
     ghost use Rattle.constriction_coders.specs.AnsCoder.{held_by};
 
-    /// Takes a number of `count` bits from the top, whatever was put there. If nothing was, the
-    /// bits are 0.
+    /// Takes a number of `count` bits from the top, whatever was put there. A coder that holds
+    /// nothing gives 0.
     ///
     /// The error is that of a read. It leaves the state and the words.
     #[inline]

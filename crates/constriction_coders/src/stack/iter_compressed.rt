@@ -9,7 +9,7 @@ use crate::stack::ans_coder::AnsCoder;
 use std::iter::FusedIterator;
 
 /// The words of a coder that are left to be given, as
-/// [`into_compressed`](AnsCoder::into_compressed) gives them, the one on top of the stack last.
+/// [`into_compressed`](AnsCoder::into_compressed) gives them, that on top of the stack last.
 #[derive(Debug, Drop)]
 pub struct CompressedWords<'c> {
     words: &'c [u32],
