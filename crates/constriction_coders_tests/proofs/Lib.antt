@@ -3,3 +3,4 @@ mod OwnModels
 mod Pairs
 mod Shown
 mod TwoStates
+mod Words

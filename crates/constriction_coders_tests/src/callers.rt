@@ -15,6 +15,7 @@ pub mod prepared;
 mod queue;
 mod stack;
 mod tables;
+mod words;
 
 use constriction::backends::{Cursor, StackSource, WordStack};
 use constriction::stream::model::{
@@ -24,7 +25,7 @@ use constriction::stream::model::{
 use constriction::{CoderError, DefaultEncoderFrontendError};
 use constriction_coders::laws::{compressed_comes_back, symbols_come_back, there_and_back};
 use constriction_coders::stack::AnsCoder;
-use constriction_coders::{Decode, decode_iid_symbols};
+use constriction_coders::{Decode, ModelWord, decode_iid_symbols};
 use std::alloc::{AllocError, Global};
 
 /// A decoder of texts over 24 bits of `u32`.
@@ -41,7 +42,7 @@ pub fn over_a_vec<M, const PRECISION: usize>(
     symbols: &[M::Symbol],
 ) -> Option<Vec<M::Symbol>>
 where
-    M: EncoderModel<PRECISION, Probability = u32> + DecoderModel<PRECISION, Probability = u32>,
+    M: EncoderModel<PRECISION, Probability: ModelWord> + DecoderModel<PRECISION>,
     M::Symbol: Drop,
     ensures { IfSome result (λ answers.
         AllZip (StandsForEqual M.stands_for M.symbol_eq) (reverse symbols.now) answers.items) }
@@ -57,7 +58,7 @@ pub fn in_order<M, const PRECISION: usize>(
     symbols: &[M::Symbol],
 ) -> Option<Vec<M::Symbol>>
 where
-    M: EncoderModel<PRECISION, Probability = u32> + DecoderModel<PRECISION, Probability = u32>,
+    M: EncoderModel<PRECISION, Probability: ModelWord> + DecoderModel<PRECISION>,
     M::Symbol: Drop,
     ensures { IfSome result (λ answers.
         AllZip (StandsForEqual M.stands_for M.symbol_eq) symbols.now answers.items) }
@@ -118,7 +119,7 @@ pub fn by_a_walk<Backend, D, const PRECISION: usize>(
 ) -> Result<Vec<D::Symbol>, CoderError<AllocError, Backend::ReadError>>
 where
     Backend: StackSource<u32>,
-    D: DecoderModel<PRECISION, Probability = u32>,
+    D: DecoderModel<PRECISION, Probability: ModelWord>,
     D::Symbol: Drop,
     ensures { IfOk result (λ symbols. InTurn (IsDecoded D.stands_for (D.rows model.now) PRECISION)
         symbols.items (held_by coder.old) (held_by coder.new)) }
@@ -142,7 +143,7 @@ pub fn from_an_iterator<Backend, E, I, const PRECISION: usize>(
 ) -> Result<(), CoderError<DefaultEncoderFrontendError, Backend::WriteError>>
 where
     Backend: WordStack<u32>,
-    E: EncoderModel<PRECISION, Probability = u32>,
+    E: EncoderModel<PRECISION, Probability: ModelWord>,
     E::Symbol: Drop,
     I: DoubleEndedIterator<Item = E::Symbol>,
     requires can_next_back { I.can_next_back symbols }

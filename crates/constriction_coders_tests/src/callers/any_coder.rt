@@ -9,7 +9,7 @@ use constriction::stream::model::{DecoderModel, EncoderModel, UniformModel};
 use constriction_coders::laws::ComesBack;
 use constriction_coders::queue::RangeEncoder;
 use constriction_coders::stack::AnsCoder;
-use constriction_coders::{Decode, Encode, IntoDecoder};
+use constriction_coders::{Decode, Encode, IntoDecoder, ModelWord};
 use std::alloc::Global;
 
 /// Encodes symbols by any coder, and decodes them by the decoder that it becomes. They come back in
@@ -23,9 +23,9 @@ pub fn by_any_coder<C, D, E, const PRECISION: usize>(
 ) -> Option<Vec<D::Symbol>>
 where
     C: ComesBack<PRECISION> + Drop,
-    D: DecoderModel<PRECISION, Probability = u32>,
+    D: DecoderModel<PRECISION, Probability: ModelWord>,
     D::Symbol: Drop,
-    E: EncoderModel<PRECISION, Symbol = D::Symbol, Probability = u32>,
+    E: EncoderModel<PRECISION, Symbol = D::Symbol, Probability: ModelWord>,
     C::FrontendError: Drop,
     C::BackendError: Drop,
     <C::Decoder as Decode<PRECISION>>::FrontendError: Drop,

@@ -20,14 +20,14 @@ use constriction::{CoderError, Queue};
 use constriction_coders::laws::{pairs_come_back, range_pairs_come_back};
 use constriction_coders::queue::{DecoderFrontendError, RangeDecoder, RangeEncoder};
 use constriction_coders::stack::AnsCoder;
-use constriction_coders::{Encode, decode_symbols};
+use constriction_coders::{Encode, ModelWord, decode_symbols};
 use std::alloc::{AllocError, Global};
 
 /// The words of symbols that are encoded each by its own model, from the back of an iterator on, if
 /// the states of that show what is left.
 pub fn words_of_pairs<E, I, const PRECISION: usize>(alloc: Global, pairs: I) -> Option<Vec<u32>>
 where
-    E: EncoderModel<PRECISION, Probability = u32> + Drop,
+    E: EncoderModel<PRECISION, Probability: ModelWord> + Drop,
     E::Symbol: Drop,
     I: DoubleEndedIterator<Item = (E::Symbol, E)>,
     requires can_next_back { I.can_next_back pairs }
@@ -57,7 +57,7 @@ fn by_models<Backend, D, const PRECISION: usize>(
 ) -> Result<Vec<D::Symbol>, CoderError<AllocError, Backend::ReadError>>
 where
     Backend: WordStack<u32>,
-    D: DecoderModel<PRECISION, Probability = u32>,
+    D: DecoderModel<PRECISION, Probability: ModelWord>,
     D::Symbol: Drop,
     ensures count { IfOk result (λ answers. length answers.items ≡ length models.now) }
     ensures run { IfOk result (λ answers. (left : Content)
@@ -83,9 +83,9 @@ pub fn from_a_stack<D, E, const PRECISION: usize>(
     models: &[D],
 ) -> Option<Vec<D::Symbol>>
 where
-    D: DecoderModel<PRECISION, Probability = u32>,
+    D: DecoderModel<PRECISION, Probability: ModelWord>,
     D::Symbol: Drop,
-    E: EncoderModel<PRECISION, Symbol = D::Symbol, Probability = u32> + Drop,
+    E: EncoderModel<PRECISION, Symbol = D::Symbol, Probability: ModelWord> + Drop,
     requires { AllZip (λ pair model. SameEntries E.symbol_eq (E.rows pair.1) (D.rows model))
         pairs.items models.now }
     ensures { IfSome result (λ answers.
@@ -109,7 +109,7 @@ where
 /// what is left.
 pub fn message_of_pairs<E, I, const PRECISION: usize>(alloc: Global, pairs: I) -> Option<Vec<u32>>
 where
-    E: EncoderModel<PRECISION, Probability = u32> + Drop,
+    E: EncoderModel<PRECISION, Probability: ModelWord> + Drop,
     E::Symbol: Drop,
     I: Iterator<Item = (E::Symbol, E)>,
     requires can_next { I.can_next pairs }
@@ -138,7 +138,7 @@ fn read_by_models<Source, D, const PRECISION: usize>(
 ) -> Result<Vec<D::Symbol>, CoderError<DecoderFrontendError, Source::ReadError>>
 where
     Source: ReadWords<u32, Queue>,
-    D: DecoderModel<PRECISION, Probability = u32>,
+    D: DecoderModel<PRECISION, Probability: ModelWord>,
     D::Symbol: Drop,
     requires { Source.can_read decoder.old.words }
     ensures count { IfOk result (λ answers. length answers.items ≡ length models.now) }
@@ -165,9 +165,9 @@ pub fn from_a_queue<D, E, const PRECISION: usize>(
     models: &[D],
 ) -> Option<Vec<D::Symbol>>
 where
-    D: DecoderModel<PRECISION, Probability = u32>,
+    D: DecoderModel<PRECISION, Probability: ModelWord>,
     D::Symbol: Drop,
-    E: EncoderModel<PRECISION, Symbol = D::Symbol, Probability = u32> + Drop,
+    E: EncoderModel<PRECISION, Symbol = D::Symbol, Probability: ModelWord> + Drop,
     requires { AllZip (λ pair model. SameEntries E.symbol_eq (E.rows pair.1) (D.rows model))
         pairs.items models.now }
     ensures { IfSome result (λ answers.

@@ -12,7 +12,7 @@ use constriction_coders::laws::{
     range_symbols_come_back, sealed_words_tell,
 };
 use constriction_coders::queue::{EncodedWords, RangeDecoder, RangeEncoder};
-use constriction_coders::{Decode, Encode};
+use constriction_coders::{Decode, Encode, ModelWord};
 use std::alloc::Global;
 
 /// A message by any model that encodes and decodes.
@@ -22,7 +22,7 @@ pub fn by_any_model<M, const PRECISION: usize>(
     symbols: &[M::Symbol],
 ) -> Option<Vec<M::Symbol>>
 where
-    M: EncoderModel<PRECISION, Probability = u32> + DecoderModel<PRECISION, Probability = u32>,
+    M: EncoderModel<PRECISION, Probability: ModelWord> + DecoderModel<PRECISION>,
     M::Symbol: Drop,
     ensures { IfSome result (λ answers.
         AllZip (StandsForEqual M.stands_for M.symbol_eq) symbols.now answers.items) }
@@ -38,7 +38,7 @@ pub fn before_other_words<M, const PRECISION: usize>(
     others: &[u32],
 ) -> Option<Vec<M::Symbol>>
 where
-    M: EncoderModel<PRECISION, Probability = u32> + DecoderModel<PRECISION, Probability = u32>,
+    M: EncoderModel<PRECISION, Probability: ModelWord> + DecoderModel<PRECISION>,
     M::Symbol: Drop,
     ensures { IfSome result (λ answers.
         AllZip (StandsForEqual M.stands_for M.symbol_eq) symbols.now answers.items) }
@@ -64,7 +64,7 @@ pub fn while_encoding<M, const PRECISION: usize>(
     symbols: &[M::Symbol],
 ) -> Option<Vec<M::Symbol>>
 where
-    M: EncoderModel<PRECISION, Probability = u32> + DecoderModel<PRECISION, Probability = u32>,
+    M: EncoderModel<PRECISION, Probability: ModelWord> + DecoderModel<PRECISION>,
     M::Symbol: Drop,
     ensures { IfSome result (λ answers.
         AllZip (StandsForEqual M.stands_for M.symbol_eq) symbols.now answers.items) }
@@ -90,7 +90,7 @@ pub fn from_a_place<M, const PRECISION: usize>(
     second: &[M::Symbol],
 ) -> Option<Vec<M::Symbol>>
 where
-    M: EncoderModel<PRECISION, Probability = u32> + DecoderModel<PRECISION, Probability = u32>,
+    M: EncoderModel<PRECISION, Probability: ModelWord> + DecoderModel<PRECISION>,
     M::Symbol: Drop,
     ensures { IfSome result (λ answers.
         AllZip (StandsForEqual M.stands_for M.symbol_eq) second.now answers.items) }
@@ -134,8 +134,8 @@ pub fn by_two_models<M, N, const FIRST: usize, const SECOND: usize>(
     other: &N::Symbol,
 ) -> Option<(M::Symbol, N::Symbol)>
 where
-    M: EncoderModel<FIRST, Probability = u32> + DecoderModel<FIRST, Probability = u32>,
-    N: EncoderModel<SECOND, Probability = u32> + DecoderModel<SECOND, Probability = u32>,
+    M: EncoderModel<FIRST, Probability: ModelWord> + DecoderModel<FIRST>,
+    N: EncoderModel<SECOND, Probability: ModelWord> + DecoderModel<SECOND>,
     M::Symbol: Drop,
     N::Symbol: Drop,
     ensures { IfSome result (λ answers. StandsForEqual M.stands_for M.symbol_eq symbol.now answers.0
@@ -177,7 +177,7 @@ pub fn in_two_states<M, const PRECISION: usize>(
     other: &M::Symbol,
 ) -> Option<(M::Symbol, M::Symbol)>
 where
-    M: EncoderModel<PRECISION, Probability = u32> + DecoderModel<PRECISION, Probability = u32>,
+    M: EncoderModel<PRECISION, Probability: ModelWord> + DecoderModel<PRECISION>,
     M::Symbol: Drop,
     ensures { IfSome result (λ answers. StandsForEqual M.stands_for M.symbol_eq symbol.now answers.0
         × StandsForEqual M.stands_for M.symbol_eq other.now answers.1) }

@@ -12,12 +12,12 @@ use constriction::backends::Cursor;
 use constriction::laws::contiguous_symbols_differ;
 use constriction::stream::model::{DecoderModel, EncoderModel, EntropyModel, UniformModel};
 use constriction::{CoderError, Pos, Seek};
-use constriction_coders::Decode;
 use constriction_coders::laws::{
     back_and_there, binary_comes_back, bits_come_back, encoded_once, may_be_held, symbols_come_back,
 };
 use constriction_coders::stack::AnsCoder;
 use constriction_coders::stack::bits_back::{decode, encode};
+use constriction_coders::{Decode, ModelWord};
 use std::alloc::Global;
 
 /// Why no symbols were decoded.
@@ -36,7 +36,7 @@ pub fn words_of_symbols<E, const PRECISION: usize>(
     symbols: &[E::Symbol],
 ) -> Option<Vec<u32>>
 where
-    E: EncoderModel<PRECISION, Probability = u32>,
+    E: EncoderModel<PRECISION, Probability: ModelWord>,
     ensures { IfSome result (λ words.
         IsStackOf (entry_of E.symbol_eq (E.rows encoder.now)) PRECISION symbols.now words.items) }
 {
@@ -60,7 +60,7 @@ pub fn symbols_of_words<M, const PRECISION: usize>(
     count: usize,
 ) -> Result<Vec<M::Symbol>, WordsError>
 where
-    M: EncoderModel<PRECISION, Probability = u32> + DecoderModel<PRECISION, Probability = u32>,
+    M: EncoderModel<PRECISION, Probability: ModelWord> + DecoderModel<PRECISION>,
     M::Symbol: Drop,
     ensures back { IfOk result (λ answers. (symbols : List M.Symbol) → length symbols ≡ count
         → IsStackOf (entry_of M.symbol_eq (M.rows model.now)) PRECISION symbols words.now
@@ -94,7 +94,7 @@ pub fn from_a_place<M, const PRECISION: usize>(
     later: &[M::Symbol],
 ) -> Option<Vec<M::Symbol>>
 where
-    M: EncoderModel<PRECISION, Probability = u32> + DecoderModel<PRECISION, Probability = u32>,
+    M: EncoderModel<PRECISION, Probability: ModelWord> + DecoderModel<PRECISION>,
     M::Symbol: Drop,
     ensures { IfSome result (λ answers.
         AllZip (StandsForEqual M.stands_for M.symbol_eq) first.now answers.items) }
@@ -133,22 +133,29 @@ where
 /// Numbers below a range.
 type Numbers = UniformModel<u32, 24>;
 
+/// Latent numbers by the posterior, over words of 8 bits.
+type Latents = UniformModel<u8, 6>;
+
+/// Numbers by the likelihood, over words of 16 bits.
+type Likely = UniformModel<u16, 12>;
+
 /// The model of latent numbers that a number chooses. It is the same for all: three numbers of the
 /// same weight.
-fn posterior(_symbol: &usize) -> Numbers
-    ensures { ⟦<Numbers as EntropyModel<24>>⟧.rows result ≡ uniform_rows 24 3 }
+fn posterior(_symbol: &usize) -> Latents
+    ensures { ⟦<Latents as EntropyModel<6>>⟧.rows result ≡ uniform_rows 6 3 }
 {
-    Numbers::new(3)
+    Latents::new(3)
 }
 
 /// The model of numbers that a latent number chooses.
-fn likelihood(latent: &usize) -> Numbers
-    ensures { ⟦<Numbers as EntropyModel<24>>⟧.rows result ≡ uniform_rows 24 (2 + latent.now % 4) }
+fn likelihood(latent: &usize) -> Likely
+    ensures { ⟦<Likely as EntropyModel<12>>⟧.rows result ≡ uniform_rows 12 (2 + latent.now % 4) }
 {
-    Numbers::new(2 + *latent % 4)
+    Likely::new(2 + *latent % 4)
 }
 
-/// A number that is encoded by way of a latent one comes back, and so does what the coder held.
+/// A number that is encoded by way of a latent one comes back, and so does what the coder held. The
+/// three models have three words and three precisions.
 pub fn by_a_latent_number(coder: &mut AnsCoder<Vec<u32>>, symbol: usize) -> Option<usize>
     ensures symbol { IfSome result (λ answer. answer ≡ symbol) }
     ensures coder { IfSome result (λ _. held_by coder.new ≡ held_by coder.old) }

@@ -7,6 +7,7 @@ ghost use Rattle.constriction.specs.Coding.{StandsForEqual};
 use crate::checks::holds;
 use constriction::stream::model::{DecoderModel, EncoderModel, UniformModel};
 use constriction_adaptive::{KnownModels, queue, stack};
+use constriction_coders::ModelWord;
 use constriction_coders::stack::AnsCoder;
 use std::alloc::Global;
 
@@ -17,7 +18,7 @@ fn in_a_message<M, const PRECISION: usize>(
     symbols: &[M::Symbol],
 ) -> Option<Vec<M::Symbol>>
 where
-    M: EncoderModel<PRECISION, Probability = u32> + DecoderModel<PRECISION, Probability = u32>,
+    M: EncoderModel<PRECISION, Probability: ModelWord> + DecoderModel<PRECISION>,
     M::Symbol: Drop,
     requires { 0 < length models.now }
     ensures { IfSome result (λ answers.
@@ -40,7 +41,7 @@ fn on_a_stack<M, const PRECISION: usize>(
     coder: &mut AnsCoder<Vec<u32>>,
 ) -> Option<Vec<M::Symbol>>
 where
-    M: EncoderModel<PRECISION, Probability = u32> + DecoderModel<PRECISION, Probability = u32>,
+    M: EncoderModel<PRECISION, Probability: ModelWord> + DecoderModel<PRECISION>,
     M::Symbol: Drop,
     requires { 0 < length models.now }
     ensures { IfSome result (λ answers.
@@ -73,5 +74,24 @@ fn each_symbol_has_the_model_at_its_place(rt: HostRuntime) {
     match in_a_message(alloc, &models, &[7, 990, 2, 3]) {
         Some(_) => panic!(&rt; "a symbol that its model lacks came back"),
         None => {}
+    }
+}
+
+#[test]
+fn known_models_may_be_over_words_of_16_bits(rt: HostRuntime) {
+    let alloc = rt.alloc();
+    let models = [
+        UniformModel::<u16, 12>::new(10),
+        UniformModel::<u16, 12>::new(1000),
+    ];
+    let symbols = [7, 990, 2];
+    match in_a_message(alloc, &models, &symbols) {
+        Some(answers) => holds(&rt, &answers, &symbols),
+        None => panic!(&rt; "no message came back"),
+    }
+    let mut coder = AnsCoder::new(alloc);
+    match on_a_stack(alloc, &models, &symbols, &mut coder) {
+        Some(answers) => holds(&rt, &answers, &symbols),
+        None => panic!(&rt; "nothing came back"),
     }
 }

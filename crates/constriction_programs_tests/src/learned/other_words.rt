@@ -10,6 +10,7 @@ use constriction::stream::model::{
     ContiguousCategoricalEntropyModel, DecoderModel, EncoderModel, EntropyModel,
 };
 use constriction_adaptive::{Bit, Predictor, decode_adaptively, queue, stack};
+use constriction_coders::ModelWord;
 use constriction_coders::stack::AnsCoder;
 use std::alloc::AllocError;
 
@@ -52,7 +53,7 @@ struct Always<'m, M> {
 
 impl<'m, M, const PRECISION: usize> Predictor<PRECISION> for Always<'m, M>
 where
-    M: EncoderModel<PRECISION, Probability = u32> + DecoderModel<PRECISION>,
+    M: EncoderModel<PRECISION, Probability: ModelWord> + DecoderModel<PRECISION>,
 {
     type Symbol = M::Symbol;
 

@@ -11,4 +11,6 @@ returns-in-Ok-encode_symbol-clause-ok g c =
 pub returns-in-Ok-encode_symbol-clause-tile : goal.returns-in-Ok-encode_symbol-clause-tile
 returns-in-Ok-encode_symbol-clause-tile g c =
     tile-in g.P.Predictor.rows g.P.Model.EncoderModel.symbol_eq g.row.PRECISION _ (g.P.Predictor.state c.args.predictor.now)
-    (c.model.ensures ∙ ap g.P.Predictor.rows c.reserve.ensures.same) (tiles-wider _ 32 g.row.PRECISION _ g.met.P.Model.Probability.ModelWord.width_law (g.met.P.Model.DecoderModel.tile_law c.model.result.now))
+    (c.model.ensures ∙ ap g.P.Predictor.rows c.reserve.ensures.same)
+    (tiles-wider _ 32 g.row.PRECISION _ g.met.P.Model.Probability.ModelWord.width_law
+    (g.met.P.Model.DecoderModel.tile_law c.model.result.now))
