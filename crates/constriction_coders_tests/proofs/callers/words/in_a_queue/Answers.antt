@@ -1,4 +1,4 @@
-use Rattle.std.proofs.Common.{◌≡◌, ◌++◌, ◌∙◌, [], drop, ap}
+use Rattle.std.proofs.Common.{◌++◌, ◌∙◌, [], sym}
 use Rattle.std.proofs.lemmas.Bool.{eqb-true}
 use Rattle.std.proofs.lemmas.List.{append-nil}
 use Rattle.constriction_coders.specs.RangeDecoder.{held_by}
@@ -7,10 +7,8 @@ use Rattle.constriction_coders_tests.proofs.callers.words.in_a_queue.Goals as go
 
 pub returns : goal.returns
 returns c =
-    let source = c.new_at_write_beginning in
     let words = c.in-Ok-into_compressed.words.items in
-    let known : words ++ [] ≡ drop source.result.pos source.result.buf.items =
-    rw (ap (λ p. p.1) source.ensures, ap (λ p. p.0) source.ensures) (append-nil words) in
+    let known = append-nil words ∙ sym c.new_at_write_beginning.ensures.ahead in
     let back = three-read _ _ _ _ _ _ _ _ _ _ _ _ _ _ _ _ _ _ _ _ _ _ _ c.range_symbols_come_back.ensures
     c.range_symbols_come_back-2.ensures c.range_symbols_come_back-3.ensures c.sealed_words_tell.ensures _ _ _ _ words
     (held_by c.in-Ok-from_compressed.opened) _ _ _ c.new-coder.ensures c.in-Ok.ensures.ok c.in-Ok-encode_symbol.ensures.ok
