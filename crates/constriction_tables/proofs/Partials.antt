@@ -1,17 +1,17 @@
 -- Tables that are being made.
-use Rattle.std.specs.Prelude.{◌≡◌, ℕ, ◌+◌, ◌-◌, ◌^◌, ◌<◌, ◌≤◌, ◌||◌, Bool, true, false, cond, nat_eq, List, [], ◌∷◌, ◌++◌, length, map, sum, take, reverse, replicate, find, Option, Some, None, is_some, slice_index_or}
+use Rattle.std.specs.Prelude.{◌≡◌, ℕ, ◌+◌, ◌-◌, ◌^◌, ◌≤◌, ◌||◌, Bool, true, false, cond, nat_eq, List, [], ◌∷◌, ◌++◌, length, map, sum, take, reverse, replicate, find, Option, Some, None, is_some, slice_index_or}
 use Rattle.std.specs.Cmp.{IsEquivalence}
 use Rattle.std.specs.List.{IsDistinct, list_any}
 use Rattle.std.specs.Option.{option_map, option_or}
-use Rattle.std.proofs.Common.{suc, zero, refl, ap, sym, subst, ◌∙◌, arith, eq-eqb}
+use Rattle.std.proofs.Common.{suc, zero, refl, ap, sym, subst, ◌∙◌, arith}
 use Rattle.std.proofs.Math.Nat.{pow-le-pow_right}
-use Rattle.std.proofs.lemmas.Bool.{ne_eqb}
 use Rattle.std.proofs.lemmas.List.{length-append, length-map, map-append, reverse-append, take_all}
 use Rattle.std.proofs.lemmas.List.Sums.{sum_by-append}
+use Rattle.constriction_coders.specs.declared.stack.prepared_entry.PreparedEntry.{PreparedEntry}
 use Rattle.constriction_model.specs.Rows.{Row, RowsTile, entry_of, rows_of, symbols_of}
 use Rattle.constriction_model.specs.lemmas.Rows.{entry_of-cons}
 use Rattle.constriction_stored_rows.proofs.ReadLemmas.{distinct-push, none-distinct, rows_from-push}
-use Rattle.constriction_tables.specs.Table.{HasEntries, IsTable, entry_by, rows_in_table, same_number, spread}
+use Rattle.constriction_tables.specs.Table.{HasEntries, IsTable, plain_entry, rows_in_table, same_number, spread}
 use Rattle.constriction_tables.specs.lemmas.Tables.{length-spread, spread-push, table-of}
 use Rattle.constriction_tables.specs.private.Partial.{Fit, HoldsTable}
 
@@ -43,40 +43,36 @@ has-entry eq symm (r ∷ rows) s =
     ap is_some (entry_of-cons eq s r rows) ∙ some-or (eq r.symbol s) (r.left, r.weight) (entry_of eq rows s)
     ∙ ap (λ b. b || is_some (entry_of eq rows s)) (symm r.symbol s) ∙ ap (λ b. eq s r.symbol || b) (has-entry eq symm rows s)
 
-module _ {S : Type 0} (number : S → ℕ) (laws : IsEquivalence (same_number number)) (list : List (ℕ × ℕ)) (rows : List (Row S))
-    (all : HasEntries number list rows) (s : S) (k : ℕ) (e : ℕ × ℕ) (at : k ≡ number s) (is : e ≡ slice_index_or list k (0, 0)) where
-  listed : entry_by e ≡ entry_of (same_number number) rows s
-  listed = ap entry_by (is ∙ ap (λ n. slice_index_or list n (0, 0)) at) ∙ all s
+some-plain : (entry : Option PreparedEntry) → is_some (plain_entry entry) ≡ is_some entry
+some-plain (Some p) = refl
+some-plain None = refl
 
-  -- a weight other than 0 in its place says that a row has the symbol
-  pub listed-some : (e.1 ≡ 0 → ⊥) → list_any (same_number number s) (symbols_of rows) ≡ true
-  listed-some some =
-      let positive : nat_eq e.1 0 ≡ false = ne_eqb e.1 0 some in
-      let by : is_some (entry_by e) ≡ true = rw positive refl in
-      sym (has-entry (same_number number) laws.symm rows s) ∙ sym (ap is_some listed) ∙ by
+-- an entry in a symbol's place says if a row has the symbol
+pub listed-any : {S : Type 0} (number : S → ℕ) → IsEquivalence (same_number number) → (list : List (Option PreparedEntry))
+    (rows : List (Row S)) → HasEntries number list rows → (s : S) (k : ℕ) (entry : Option PreparedEntry) → k ≡ number s
+    → entry ≡ slice_index_or list k None → list_any (same_number number s) (symbols_of rows) ≡ is_some entry
+listed-any {S} number laws list rows all s k entry at is =
+    let listed : plain_entry entry ≡ entry_of (same_number number) rows s =
+    ap plain_entry (is ∙ ap (λ n. slice_index_or list n None) at) ∙ all s in
+    sym (has-entry (same_number number) laws.symm rows s) ∙ sym (ap is_some listed) ∙ some-plain entry
 
-  -- a weight 0 says that none has
-  pub listed-none : e.1 ≡ 0 → list_any (same_number number s) (symbols_of rows) ≡ false
-  listed-none none =
-      let zero : nat_eq e.1 0 ≡ true = eq-eqb e.1 0 none in
-      let by : is_some (entry_by e) ≡ false = rw zero refl in
-      sym (has-entry (same_number number) laws.symm rows s) ∙ sym (ap is_some listed) ∙ by
-
-by-cond : (t : Bool) (e f : ℕ × ℕ) (o : Option (ℕ × ℕ)) → entry_by f ≡ o → nat_eq e.1 0 ≡ false → entry_by (cond t e f) ≡ cond t (Some e) o
-by-cond true e f o h p = rw p refl
-by-cond false e f o h p = h
+plain-cond : (t : Bool) (p : PreparedEntry) (f : Option PreparedEntry) (o : Option (ℕ × ℕ)) → plain_entry f ≡ o
+    → plain_entry (cond t (Some p) f) ≡ cond t (Some (p.left, p.weight)) o
+plain-cond true p f o h = refl
+plain-cond false p f o h = h
 
 -- the list after the entry of one more row was written
-entries-more : {S : Type 0} (number : S → ℕ) (list more : List (ℕ × ℕ)) (rows : List (Row S)) (s : S) (k l w : ℕ) → k ≡ number s → 0 < w
-    → HasEntries number list rows
-    → ((i : ℕ) → slice_index_or more i (0, 0) ≡ cond (nat_eq k i) (l, w) (slice_index_or list i (0, 0)))
+entries-more : {S : Type 0} (number : S → ℕ) (list more : List (Option PreparedEntry)) (rows : List (Row S)) (s : S) (k l w : ℕ)
+    (p : PreparedEntry) → p.left ≡ l → p.weight ≡ w → k ≡ number s → HasEntries number list rows
+    → ((i : ℕ) → slice_index_or more i None ≡ cond (nat_eq k i) (Some p) (slice_index_or list i None))
     → HasEntries number more (rows ++ record { symbol = s; left = l; weight = w } ∷ [])
-entries-more {S} number list more rows s k l w at some all written = λ t.
+entries-more {S} number list more rows s k l w p left weight at all written = λ t.
     let r : Row S = record { symbol = s; left = l; weight = w } in
-    let positive : nat_eq w 0 ≡ false = ne_eqb w 0 (λ e. omega arith) in
     let same : nat_eq k (number t) ≡ nat_eq (number s) (number t) = ap (λ n. nat_eq n (number t)) at in
-    ap entry_by (written (number t))
-    ∙ by-cond (nat_eq k (number t)) (l, w) (slice_index_or list (number t) (0, 0)) (entry_of (same_number number) rows t) (all t) positive
+    let parts : ◌≡◌ {A = ℕ × ℕ} (p.left, p.weight) (l, w) = ap (λ n. (n, p.weight)) left ∙ ap (λ n. (l, n)) weight in
+    ap plain_entry (written (number t))
+    ∙ plain-cond (nat_eq k (number t)) p (slice_index_or list (number t) None) (entry_of (same_number number) rows t) (all t)
+    ∙ ap (λ e. cond (nat_eq k (number t)) (Some e) (entry_of (same_number number) rows t)) parts
     ∙ ap (λ b. cond b (Some (l, w)) (entry_of (same_number number) rows t)) same
     ∙ sym (entry-push (same_number number) rows r t)
 
@@ -137,16 +133,17 @@ words-more {S} row_in bits words rows s l w e packed stand fit =
     ∙ sym (spread-push rows r)
 
 -- what a table holds after one more row
-pub table-more : {S E : Type 0} (number : S → ℕ) (row_in : E → Row S) (bits : ℕ) (words more : List E) (list longer : List (ℕ × ℕ))
-    (rows : List (Row S)) (s : S) (k l w : ℕ) (e : E) → k ≡ number s → 0 < w
-    → ((i : ℕ) → slice_index_or longer i (0, 0) ≡ cond (nat_eq k i) (l, w) (slice_index_or list i (0, 0)))
+pub table-more : {S E : Type 0} (number : S → ℕ) (row_in : E → Row S) (bits : ℕ) (words more : List E)
+    (list longer : List (Option PreparedEntry)) (rows : List (Row S)) (s : S) (k l w : ℕ) (e : E) (p : PreparedEntry) → p.left ≡ l
+    → p.weight ≡ w → k ≡ number s
+    → ((i : ℕ) → slice_index_or longer i None ≡ cond (nat_eq k i) (Some p) (slice_index_or list i None))
     → (l + w ≤ 2 ^ bits → row_in e ≡ record { symbol = s; left = l; weight = w })
     → (long : ℕ) → long ≡ length words → more ≡ take (l + w) words ++ replicate (l + w - long) e
     → IsEquivalence (same_number number) → list_any (same_number number s) (symbols_of rows) ≡ false
     → HoldsTable number row_in bits words list rows
     → HoldsTable number row_in bits more longer (rows ++ record { symbol = s; left = l; weight = w } ∷ [])
-table-more {S} number row_in bits words more list longer rows s k l w e at some written packed long same is laws absent held = record {
-  coded = entries-more number list longer rows s k l w at some held.coded written;
+table-more {S} number row_in bits words more list longer rows s k l w e p left weight at written packed long same is laws absent held = record {
+  coded = entries-more number list longer rows s k l w p left weight at held.coded written;
   distinct =
       let pushed : symbols_of (rows ++ record { symbol = s; left = l; weight = w } ∷ []) ≡ symbols_of rows ++ s ∷ [] =
       map-append (λ (r : Row S). r.symbol) rows (record { symbol = s; left = l; weight = w } ∷ []) in
@@ -157,8 +154,8 @@ table-more {S} number row_in bits words more list longer rows s k l w e at some 
 }
 
 -- the rows of a table that are known to tile are the rows of its words
-pub held-table : {S E : Type 0} (number : S → ℕ) (row_in : E → Row S) (bits precision : ℕ) (words : List E) (list : List (ℕ × ℕ))
-    (rows : List (Row S)) → precision ≤ bits → HoldsTable number row_in bits words list rows → RowsTile 32 precision rows
+pub held-table : {S E : Type 0} (number : S → ℕ) (row_in : E → Row S) (bits precision : ℕ) (words : List E)
+    (list : List (Option PreparedEntry)) (rows : List (Row S)) → precision ≤ bits → HoldsTable number row_in bits words list rows → RowsTile 32 precision rows
     → (rows_in_table (map row_in words) ≡ rows) × IsTable number 32 precision (map row_in words) × (length words ≡ 2 ^ precision)
 held-table number row_in bits precision words list rows narrow held tile =
     let power : 2 ^ precision ≤ 2 ^ bits = pow-le-pow_right {n = 2} (omega arith) narrow in
@@ -167,10 +164,10 @@ held-table number row_in bits precision words list rows narrow held tile =
     (table.0, table.1, omega (arith, length-map words row_in, table.2))
 
 -- a table without words or entries has no rows
-pub nothing-held : {S E : Type 0} (number : S → ℕ) (row_in : E → Row S) (bits : ℕ) (words : List E) (list : List (ℕ × ℕ))
-    → words ≡ [] → list ≡ [] → HoldsTable number row_in bits words list []
+pub nothing-held : {S E : Type 0} (number : S → ℕ) (row_in : E → Row S) (bits : ℕ) (words : List E)
+    (list : List (Option PreparedEntry)) → words ≡ [] → list ≡ [] → HoldsTable number row_in bits words list []
 nothing-held {S} {E} number row_in bits words list no_words no_entries = record {
-  coded = λ s. ap (λ xs. entry_by (slice_index_or xs (number s) (0, 0))) no_entries;
+  coded = λ s. ap (λ xs. plain_entry (slice_index_or xs (number s) None)) no_entries;
   distinct = none-distinct (same_number number);
   stand = λ fit. ap (map row_in) no_words;
 }

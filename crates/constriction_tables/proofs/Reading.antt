@@ -1,10 +1,9 @@
 -- What is read from a table.
-use Rattle.std.specs.Prelude.{◌≡◌, ℕ, ◌<◌, List, length, map, nat_eq, false, Some, slice_index_or}
+use Rattle.std.specs.Prelude.{◌≡◌, ℕ, ◌<◌, List, length, map}
 use Rattle.std.proofs.Common.{get_or, refl, ap, sym, subst, ◌∙◌, arith}
-use Rattle.std.proofs.lemmas.Bool.{ne_eqb}
 use Rattle.std.proofs.lemmas.List.{get_or-map, length-map}
-use Rattle.constriction_model.specs.Rows.{Row, IsRowOf, entry_of}
-use Rattle.constriction_tables.specs.Table.{HasEntries, IsTable, entry_by, rows_in_table, same_number}
+use Rattle.constriction_model.specs.Rows.{Row, IsRowOf}
+use Rattle.constriction_tables.specs.Table.{IsTable, rows_in_table}
 use Rattle.constriction_tables.specs.lemmas.Tables.{table-row}
 
 -- the word at a quantile has the row that holds it
@@ -16,15 +15,6 @@ read-row {S} number same row_in bits precision items t q e h is =
     let at : get_or (map row_in items) q (row_in e) ≡ row_in e = get_or-map row_in items q e (row_in e) h ∙ ap row_in (sym is) in
     subst (λ (r : Row S). IsRowOf (rows_in_table (map row_in items)) q r) at
     (table-row number same bits precision (map row_in items) t q (row_in e) short)
-
--- what a list has at the number of a symbol is the symbol's entry, if the weight is not 0
-pub entry-listed : {S : Type 0} (number : S → ℕ) (list : List (ℕ × ℕ)) (rows : List (Row S)) → HasEntries number list rows
-    → (s : S) (k : ℕ) (e : ℕ × ℕ) → k ≡ number s → e ≡ slice_index_or list k (0, 0) → (e.1 ≡ 0 → ⊥)
-    → Some e ≡ entry_of (same_number number) rows s
-entry-listed number list rows all s k e at is some =
-    let positive : nat_eq e.1 0 ≡ false = ne_eqb e.1 0 some in
-    let listed : entry_by e ≡ Some e = rw positive refl in
-    sym listed ∙ ap entry_by (is ∙ ap (λ n. slice_index_or list n (0, 0)) at) ∙ all s
 
 -- a row is its three parts
 pub row-made : {S : Type 0} (r : Row S) (s : S) (l w : ℕ) → s ≡ r.symbol → l ≡ r.left → w ≡ r.weight

@@ -1,6 +1,8 @@
 -- Tables that have the row of each quantile, and entries by the number of a symbol.
-use Rattle.std.specs.Prelude.{◌≡◌, ℕ, ◌+◌, ◌<◌, Bool, cond, nat_eq, nat_lt, List, [], ◌∷◌, ◌++◌, All, drop, length, map, replicate, Option, Some, None, slice_index_or}
+use Rattle.std.specs.Prelude.{◌≡◌, ℕ, ◌+◌, ◌<◌, Bool, cond, nat_eq, nat_lt, List, [], ◌∷◌, ◌++◌, All, drop, length, map, replicate, Option, None, slice_index_or}
 use Rattle.std.specs.List.{filter, range_with_len}
+use Rattle.std.specs.Option.{option_map}
+use Rattle.constriction_coders.specs.declared.stack.prepared_entry.PreparedEntry.{PreparedEntry}
 use Rattle.constriction_model.specs.Acceptance.{IsAccepted}
 use Rattle.constriction_model.specs.Rows.{Row, entry_of, rows_from, rows_of, symbols_of}
 
@@ -30,9 +32,9 @@ first_symbols symbol_of n = map symbol_of (range_with_len 0 n)
 abbrev pub weighted_rows : {Symbol : Type 0} → (ℕ → Symbol) → List ℕ → List (Row Symbol)
 weighted_rows symbol_of weights = filter (λ r. nat_lt 0 r.weight) (rows_of (first_symbols symbol_of (length weights)) weights)
 
--- the entry that a left cumulative and a weight are: none if the weight is 0
-abbrev pub entry_by : ℕ × ℕ → Option (ℕ × ℕ)
-entry_by e = cond (nat_eq e.1 0) None (Some (e.0, e.1))
+-- the left cumulative and the weight of a prepared entry
+abbrev pub plain_entry : Option PreparedEntry → Option (ℕ × ℕ)
+plain_entry entry = option_map (λ e. (e.left, e.weight)) entry
 
 -- ---- symbols with numbers: no two have the same one
 
@@ -60,5 +62,5 @@ module _ {Symbol : Type 0} (number : Symbol → ℕ) where
     pub each : numbered places ≡ numbered (spread (rows_begun q places))
 
   -- a list has the entry of each symbol at the symbol's number, and none at the number of another one, or it ends before that
-  abbrev pub HasEntries : List (ℕ × ℕ) → List (Row Symbol) → Type 0
-  HasEntries list rows = (s : Symbol) → entry_by (slice_index_or list (number s) (0, 0)) ≡ entry_of same_number rows s
+  abbrev pub HasEntries : List (Option PreparedEntry) → List (Row Symbol) → Type 0
+  HasEntries list rows = (s : Symbol) → plain_entry (slice_index_or list (number s) None) ≡ entry_of same_number rows s

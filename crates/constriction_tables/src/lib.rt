@@ -1,8 +1,8 @@
 //! An entropy model with one entry for each quantile, so that a look-up is one load.
 //!
 //! An entry holds the whole row of its quantile in one word: symbol, left cumulative and weight. A
-//! second, small list has the left cumulative and the weight of each symbol, so one model serves
-//! decoders and encoders.
+//! second list has the prepared entry of each symbol, made once, so one model serves decoders and
+//! encoders, and a stack coder encodes without a division.
 #![tactic(auto)]
 
 mod by_model;

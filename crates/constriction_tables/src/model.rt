@@ -11,6 +11,7 @@ ghost use Rattle.constriction_tables.specs.lemmas.Tables.{same_number-equivalenc
 
 use crate::entry::TableEntry;
 use crate::partial::entry_at;
+use constriction_coders::stack::{PreparedEntry, PreparedModel};
 use constriction_model::{DecoderModel, EncoderModel, EntropyModel, Weight};
 use constriction_numbers::WholeNumber;
 use std::alloc::AllocError;
@@ -18,12 +19,13 @@ use std::alloc::AllocError;
 /// A model of symbols that are small numbers, with one entry for each quantile.
 ///
 /// An entry is one word, which holds the row of its quantile, so a look-up
-/// ([`DecoderModel::quantile_function`]) is one load and shifts. A list of left cumulatives and
-/// weights by the numbers of symbols serves encoders.
+/// ([`DecoderModel::quantile_function`]) is one load and shifts. A list of prepared entries
+/// ([`PreparedModel::prepared_entry`]) by the numbers of symbols serves encoders, which then divide
+/// by no weight.
 #[derive(Drop)]
 pub struct DirectTableModel<Entry: TableEntry, const PRECISION: usize> {
     pub(crate) entries: Vec<Entry>,
-    pub(crate) by_symbol: Vec<(u32, u32)>,
+    pub(crate) by_symbol: Vec<Option<PreparedEntry>>,
     ghost precise: { IsPrecision 32 PRECISION },
     ghost narrow: { PRECISION ≤ Entry.ROW_BITS },
     ghost full: { length entries.items ≡ 2 ^ PRECISION },
@@ -62,17 +64,25 @@ impl<Entry: TableEntry, const PRECISION: usize> EncoderModel<PRECISION>
         &self,
         symbol: &Entry::Symbol,
     ) -> Option<(u32, Weight<u32>)> {
-        let (left, weight) = entry_at(&self.by_symbol, Entry::to_index(*symbol));
-        if weight == 0 {
+        let Some(entry) = self.prepared_entry(symbol) else {
             return None;
-        }
-        Some((left, weight.to_weight()))
+        };
+        Some((entry.left(), entry.weight().to_weight()))
     }
 
     ghost equality_law = { same_number-equivalence Entry.number Entry.same_law };
 
     ghost within_law = { λ m.
         rows-within 32 _ _ (table-tiles Entry.number Entry.same_law 32 _ _ m.table) };
+}
+
+impl<Entry: TableEntry, const PRECISION: usize> PreparedModel<PRECISION>
+    for DirectTableModel<Entry, PRECISION> {
+    /// The entry of a symbol, which was prepared when the model was made: one load.
+    #[inline]
+    fn prepared_entry(&self, symbol: &Entry::Symbol) -> Option<PreparedEntry> {
+        entry_at(&self.by_symbol, Entry::to_index(*symbol))
+    }
 }
 
 impl<Entry: TableEntry, const PRECISION: usize> DecoderModel<PRECISION>

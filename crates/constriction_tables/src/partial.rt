@@ -1,37 +1,42 @@
 //! A table that is being made, one row after another.
 
-ghost use Rattle.std.specs.Prelude.{◌≡◌, ◌<◌, ℕ, [], cond, nat_eq, IfOk, OnOk, slice_index_or};
+ghost use Rattle.std.specs.Prelude.{◌≡◌, ◌<◌, ℕ, [], cond, nat_eq, IfOk, None, OnOk, Some, slice_index_or};
 ghost use Rattle.constriction_tables.specs.Table.{same_number};
 ghost use Rattle.constriction_tables.specs.lemmas.Tables.{same_number-equivalence};
 ghost use Rattle.constriction_tables.specs.private.Partial.{HoldsTable};
 
 use crate::entry::TableEntry;
+use constriction_coders::stack::PreparedEntry;
 use constriction_model::ModelError;
 use constriction_stored_rows::TakesRows;
 use std::alloc::{AllocError, Global};
 
-/// What a list has at an index, or two zeros past its end.
+/// What a list has at an index, or nothing past its end.
 #[inline]
-pub(crate) fn entry_at(list: &[(u32, u32)], index: usize) -> (u32, u32)
-    ensures { result ≡ slice_index_or list.now index (0, 0) }
+pub(crate) fn entry_at(list: &[Option<PreparedEntry>], index: usize) -> Option<PreparedEntry>
+    ensures { result ≡ slice_index_or list.now index None }
 {
     match list.get(index) {
         Some(entry) => *entry,
-        None => (0, 0),
+        None => None,
     }
 }
 
 /// Writes an entry at an index of a list, which grows if it ends before that.
 #[inline]
-fn list_entry(list: &mut Vec<(u32, u32)>, index: usize, entry: (u32, u32)) -> Result<(), AllocError>
+fn list_entry(
+    list: &mut Vec<Option<PreparedEntry>>,
+    index: usize,
+    entry: PreparedEntry,
+) -> Result<(), AllocError>
     requires { index < 65536 }
-    ensures { OnOk result ((k : ℕ) → slice_index_or list.new.items k (0, 0)
-        ≡ cond (nat_eq index k) entry (slice_index_or list.old.items k (0, 0))) }
+    ensures { OnOk result ((k : ℕ) → slice_index_or list.new.items k None
+        ≡ cond (nat_eq index k) (Some entry) (slice_index_or list.old.items k None)) }
 {
     if list.len() <= index {
-        list.resize(index + 1, (0, 0))?;
+        list.resize(index + 1, None)?;
     }
-    list[index] = entry;
+    list[index] = Some(entry);
     Ok(())
 }
 
@@ -39,7 +44,7 @@ fn list_entry(list: &mut Vec<(u32, u32)>, index: usize, entry: (u32, u32)) -> Re
 #[derive(Drop)]
 pub(crate) struct PartialTable<Entry: TableEntry> {
     pub(crate) entries: Vec<Entry>,
-    pub(crate) by_symbol: Vec<(u32, u32)>,
+    pub(crate) by_symbol: Vec<Option<PreparedEntry>>,
 }
 
 impl<Entry: TableEntry> PartialTable<Entry> {
@@ -72,10 +77,10 @@ impl<Entry: TableEntry> TakesRows<Entry::Symbol, u32> for PartialTable<Entry> {
         weight: u32,
     ) -> Result<(), ModelError> {
         let index = Entry::to_index(symbol);
-        if entry_at(&self.by_symbol, index).1 != 0 {
+        if entry_at(&self.by_symbol, index).is_some() {
             return Err(ModelError::InvalidTable);
         }
-        list_entry(&mut self.by_symbol, index, (left, weight))?;
+        list_entry(&mut self.by_symbol, index, PreparedEntry::new(left, weight))?;
         let end = left as usize + weight as usize;
         self.entries.resize(end, Entry::pack(symbol, left, weight))?;
         Ok(())

@@ -1,6 +1,7 @@
 -- Tables that are being made.
-use Rattle.std.specs.Prelude.{◌≡◌, ℕ, ◌^◌, ◌≤◌, List, map, sum}
+use Rattle.std.specs.Prelude.{◌≡◌, ℕ, ◌^◌, ◌≤◌, List, Option, map, sum}
 use Rattle.std.specs.List.{IsDistinct}
+use Rattle.constriction_coders.specs.declared.stack.prepared_entry.PreparedEntry.{PreparedEntry}
 use Rattle.constriction_model.specs.Rows.{Row, rows_of, symbols_of}
 use Rattle.constriction_tables.specs.Table.{HasEntries, same_number, spread}
 
@@ -11,7 +12,7 @@ pub record Fit {Symbol : Type 0} (row_bits : ℕ) (rows : List (Row Symbol)) : T
 
 -- these words and entries are those of these rows, of which no two have the same symbol; the words, if the rows fit
 pub record HoldsTable {Symbol Entry : Type 0} (number : Symbol → ℕ) (row_in : Entry → Row Symbol) (row_bits : ℕ) (entries : List Entry)
-    (list : List (ℕ × ℕ)) (rows : List (Row Symbol)) : Type 0 where
+    (list : List (Option PreparedEntry)) (rows : List (Row Symbol)) : Type 0 where
   pub coded : HasEntries number list rows
   pub distinct : IsDistinct (same_number number) (symbols_of rows)
   pub stand : Fit row_bits rows → map row_in entries ≡ spread rows
