@@ -1,13 +1,14 @@
 -- The rows of weights in the order of the symbols' numbers.
-use Rattle.std.specs.Prelude.{◌≡◌, ℕ, ◌+◌, ◌^◌, ◌<◌, ◌≤◌, Bool, true, false, cond, nat_eq, nat_lt, List, [], ◌∷◌, ◌++◌, length, map, sum, take, All}
+use Rattle.std.specs.Prelude.{◌≡◌, ℕ, ◌+◌, ◌-◌, ◌^◌, ◌<◌, ◌≤◌, Bool, true, false, cond, nat_eq, nat_lt, List, [], ◌∷◌, ◌++◌, length, map, sum, take, All}
 use Rattle.std.specs.List.{filter, list_any, range_with_len}
 use Rattle.std.proofs.Common.{suc, zero, refl, add-one, append-nil, ap, sym, subst, ◌∙◌, arith, get_or}
 use Rattle.std.proofs.Math.Pow.{pow-lt}
 use Rattle.std.proofs.lemmas.Bool.{lt-ltb, ne_eqb}
 use Rattle.std.proofs.lemmas.List.{length_push, length-take-le, map-append, take_more}
-use Rattle.std.proofs.lemmas.List.Elements.{All-cons, All-nil, filter-append}
+use Rattle.std.proofs.lemmas.List.Elements.{All-cons, All-head, All-nil, All-tail, filter-append}
 use Rattle.std.proofs.lemmas.List.FromFn.{length-map-range_with_len}
-use Rattle.std.proofs.lemmas.List.Sums.{sum_by-cons}
+use Rattle.std.proofs.lemmas.List.Sums.{sum_by-append, sum_by-cons}
+use Rattle.constriction_model.specs.Acceptance.{IsAccepted}
 use Rattle.constriction_model.specs.Rows.{Row, RowsTile, rows_from, rows_of, symbols_of}
 use Rattle.constriction_stored_rows.proofs.ReadLemmas.{rows_from-push}
 use Rattle.constriction_tables.specs.Table.{first_symbols, same_number, weighted_rows}
@@ -177,3 +178,45 @@ weighted-tile {S} symbol_of bits precision ws narrow total =
       };
       in_order = kept-order 0 ss ws;
     }
+
+-- the rows after one more weight, in the parts that the row is made of
+pub weighted-last : {S : Type 0} (symbol_of : ℕ → S) (ws : List ℕ) (w : ℕ) (s : S) (l v : ℕ) → 0 < w → s ≡ symbol_of (length ws)
+    → l ≡ sum ws → v ≡ w
+    → weighted_rows symbol_of ws ++ record { symbol = s; left = l; weight = v } ∷ [] ≡ weighted_rows symbol_of (ws ++ w ∷ [])
+weighted-last {S} symbol_of ws w s l v some at is same =
+    let rows : List (Row S) = weighted_rows symbol_of ws in
+    ap (λ t. rows ++ record { symbol = t; left = l; weight = v } ∷ []) at
+    ∙ ap (λ n. rows ++ record { symbol = symbol_of (length ws); left = n; weight = v } ∷ []) is
+    ∙ ap (λ n. rows ++ record { symbol = symbol_of (length ws); left = sum ws; weight = n } ∷ []) same
+    ∙ sym (weighted-push symbol_of ws w some)
+
+-- if all weights are positive, each symbol has its row
+pub weighted-all : {S : Type 0} (symbol_of : ℕ → S) (ws : List ℕ) → All (λ w. 0 < w) ws
+    → weighted_rows symbol_of ws ≡ rows_of (first_symbols symbol_of (length ws)) ws
+weighted-all {S} symbol_of ws positive = go 0 (first_symbols symbol_of (length ws)) ws positive
+  where
+    go : (l : ℕ) (ss : List S) (vs : List ℕ) → All (λ w. 0 < w) vs → kept (rows_from l ss vs) ≡ rows_from l ss vs
+    go l [] vs p = refl
+    go l (s ∷ ss) [] p = refl
+    go l (s ∷ ss) (v ∷ vs) p =
+        let r : Row S = record { symbol = s; left = l; weight = v } in
+        let stays : nat_lt 0 v ≡ true = lt-ltb 0 v (All-head (λ w. 0 < w) v vs p) in
+        rw stays (ap (λ rs. r ∷ rs) (go (l + v) ss vs (All-tail (λ w. 0 < w) v vs p)))
+
+-- ---- which weights are accepted, if the last one is inferred or not
+
+-- positive weights that add up to all quantiles are accepted
+pub accepted-of : (bits precision : ℕ) (ws : List ℕ) → precision < bits → All (λ w. 0 < w) ws → sum ws ≡ 2 ^ precision
+    → IsAccepted bits precision ws
+accepted-of bits precision ws narrow positive total =
+    let less : 2 ^ precision < 2 ^ bits = pow-lt narrow in
+    record { tiles = record { positive = positive; total = total }; fit = below-sum (2 ^ bits) ws (omega arith) }
+
+pub all-push : (ws : List ℕ) (w : ℕ) → All (λ v. 0 < v) ws → 0 < w → All (λ v. 0 < v) (ws ++ w ∷ [])
+all-push [] w p h = All-cons (λ v. 0 < v) w [] h (All-nil (λ v. 0 < v))
+all-push (x ∷ ws) w p h =
+    All-cons (λ v. 0 < v) x (ws ++ w ∷ []) (All-head (λ v. 0 < v) x ws p) (all-push ws w (All-tail (λ v. 0 < v) x ws p) h)
+
+-- if the last weight is inferred, all add up to all quantiles
+pub inferred-total : (all : ℕ) (ws : List ℕ) → sum ws < all → sum (ws ++ (all - sum ws) ∷ []) ≡ all
+inferred-total all ws h = omega (arith, sum_by-append (λ x. x) ws ((all - sum ws) ∷ []))

@@ -1,6 +1,6 @@
 -- What is read from a table.
 use Rattle.std.specs.Prelude.{◌≡◌, ℕ, ◌<◌, List, length, map}
-use Rattle.std.proofs.Common.{get_or, refl, ap, sym, subst, ◌∙◌, arith}
+use Rattle.std.proofs.Common.{get_or, ap, sym, subst, ◌∙◌, arith}
 use Rattle.std.proofs.lemmas.List.{get_or-map, length-map}
 use Rattle.constriction_model.specs.Rows.{Row, IsRowOf}
 use Rattle.constriction_tables.specs.Table.{IsTable, rows_in_table}

@@ -1,9 +1,11 @@
 //! Models of weights that stand in the order of the symbols' numbers.
 
-ghost use Rattle.std.specs.Prelude.{◌≡◌, ◌^◌, ◌<◌, ◌≤◌, [], length, sum, IfOk};
+ghost use Rattle.std.specs.Prelude.{◌≡◌, ◌+◌, ◌-◌, ◌^◌, ◌<◌, ◌≤◌, ◌↔◌, All, [], ◌∷◌, ◌++◌, length, sum, IfOk, IsTrue};
+ghost use Rattle.constriction_model.specs.Acceptance.{IsAccepted, completed};
 ghost use Rattle.constriction_model.specs.Precision.{IsPrecision};
+ghost use Rattle.constriction_model.specs.Rows.{rows_of};
 ghost use Rattle.constriction_tables.specs.ModelRows.{table_model_rows};
-ghost use Rattle.constriction_tables.specs.Table.{weighted_rows};
+ghost use Rattle.constriction_tables.specs.Table.{first_symbols, weighted_rows};
 ghost use Rattle.constriction_tables.specs.private.Partial.{HoldsTable};
 
 use crate::entry::TableEntry;
@@ -54,6 +56,39 @@ fn weighted<Entry: TableEntry, const PRECISION: usize>(
     Ok((table, left))
 }
 
+/// Whether no weight is 0.
+fn are_positive(weights: &[u32]) -> bool
+    ensures { IsTrue result ↔ All (λ w. 0 < w) weights.now }
+{
+    weights.iter().all(|weight| *weight > 0)
+}
+
+/// The table with one more row, which takes the quantiles left. `InvalidTable` comes if none is.
+fn with_last<Entry: TableEntry, const PRECISION: usize>(
+    mut table: PartialTable<Entry>,
+    weights: &[u32],
+    total: u32,
+) -> Result<PartialTable<Entry>, ModelError>
+    requires precision { IsPrecision Entry.ROW_BITS PRECISION }
+    requires few { length weights.now + 1 ≤ 2 ^ Entry.SYMBOL_BITS }
+    requires held { HoldsTable Entry.number Entry.row_in Entry.ROW_BITS table.entries.items
+        table.by_symbol.items (weighted_rows Entry.symbol_of weights.now) }
+    requires total { total ≡ sum weights.now }
+    requires within { total ≤ 2 ^ PRECISION }
+    ensures held { IfOk result (λ t. HoldsTable Entry.number Entry.row_in Entry.ROW_BITS
+        t.entries.items t.by_symbol.items (weighted_rows Entry.symbol_of
+        (weights.now ++ (2 ^ PRECISION - sum weights.now) ∷ []))) }
+    ensures some { IfOk result (λ _. sum weights.now < 2 ^ PRECISION) }
+    ensures invalid { result ≡ Err ModelError.InvalidTable → 2 ^ PRECISION ≤ sum weights.now }
+{
+    let all = quantiles::<Entry, PRECISION>();
+    if total == all {
+        return Err(ModelError::InvalidTable);
+    }
+    table.take_row(Entry::from_index(weights.len()), total, all - total)?;
+    Ok(table)
+}
+
 impl<Entry: TableEntry, const PRECISION: usize> DirectTableModel<Entry, PRECISION> {
     /// The model of these weights, one for each symbol in the order of their numbers, from 0 on. A
     /// symbol of weight 0 has no row: it cannot be encoded, and is never decoded. So a histogram
@@ -78,6 +113,48 @@ impl<Entry: TableEntry, const PRECISION: usize> DirectTableModel<Entry, PRECISIO
         let all = quantiles::<Entry, PRECISION>();
         let room = PartialTable::with_capacity(alloc, all as usize, probabilities.len())?;
         let (table, total) = weighted::<Entry, PRECISION>(room, probabilities)?;
+        if total < all {
+            return Err(ModelError::InvalidTable);
+        }
+        Ok(model_of(table))
+    }
+
+    /// The model of these weights, one for each symbol in the order of their numbers, from 0 on. If
+    /// the last weight is inferred, it is what the given weights leave of `2^PRECISION`, and there
+    /// is one more symbol than given weights.
+    ///
+    /// The weights are accepted if and only if all, with the inferred one, are positive and add up
+    /// to `2^PRECISION`. `OutOfMemory` comes if memory for the words or for the entries of symbols
+    /// is refused.
+    ///
+    /// Two passes over the weights, and two allocations.
+    pub fn from_nonzero_fixed_point_probabilities(
+        alloc: Global,
+        probabilities: &[u32],
+        infer_last_probability: bool,
+    ) -> Result<Self, ModelError>
+        requires precision { IsPrecision Entry.ROW_BITS PRECISION }
+        requires few { length (completed PRECISION infer_last_probability probabilities.now)
+            ≤ 2 ^ Entry.SYMBOL_BITS }
+        ensures accepted { IfOk result (λ _. IsAccepted 32 PRECISION
+            (completed PRECISION infer_last_probability probabilities.now)) }
+        ensures rows { IfOk result (λ m. table_model_rows m ≡ rows_of
+            (first_symbols Entry.symbol_of
+            (length (completed PRECISION infer_last_probability probabilities.now)))
+            (completed PRECISION infer_last_probability probabilities.now)) }
+        ensures invalid { result ≡ Err ModelError.InvalidTable → ¬ (IsAccepted 32 PRECISION
+            (completed PRECISION infer_last_probability probabilities.now)) }
+    {
+        if !are_positive(probabilities) {
+            return Err(ModelError::InvalidTable);
+        }
+        let all = quantiles::<Entry, PRECISION>();
+        let room = PartialTable::with_capacity(alloc, all as usize, probabilities.len())?;
+        let (table, total) = weighted::<Entry, PRECISION>(room, probabilities)?;
+        if infer_last_probability {
+            let table = with_last::<Entry, PRECISION>(table, probabilities, total)?;
+            return Ok(model_of(table));
+        }
         if total < all {
             return Err(ModelError::InvalidTable);
         }
