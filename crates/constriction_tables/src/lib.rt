@@ -9,6 +9,7 @@ mod by_model;
 mod by_number;
 mod by_symbol;
 mod entry;
+pub mod laws;
 mod making;
 mod model;
 mod partial;
