@@ -1,4 +1,5 @@
 pub mod Bits
+pub mod ByContextLemmas
 pub mod CategoricalLemmas
 pub mod Entries
 pub mod LeftsLemmas

@@ -1,4 +1,5 @@
 pub mod Bit
+pub mod ByContext
 pub mod Bytes
 pub mod Categorical
 pub mod Contexts

@@ -7,6 +7,7 @@
 #![tactic(auto)]
 
 mod bit;
+mod by_context;
 pub mod bytes;
 mod categorical;
 mod contexts;
@@ -19,6 +20,7 @@ pub mod queue;
 pub mod stack;
 
 pub use self::bit::Bit;
+pub use self::by_context::{ByContext, Context};
 pub use self::categorical::AdaptiveCategorical;
 pub use self::contexts::{ByteContexts, HashedContexts, OrderOne};
 pub use self::decoding::{decode_adaptively, decode_next};

@@ -1,0 +1,26 @@
+-- One predictor of many is replaced: what the others know stays.
+use Rattle.std.specs.Prelude.{Some, slice_get}
+use Rattle.std.specs.Option.{option_map}
+use Rattle.std.proofs.Common.{◌≡◌, ℕ, ◌<◌, List, length, map, get_or, set, ap, sym, ◌∙◌}
+use Rattle.std.proofs.Math.Seq.{map-set_same}
+use Rattle.std.proofs.lemmas.List.{map-set}
+use Rattle.std.proofs.lemmas.Option.{slice_get-map, slice_get_read}
+use Rattle.constriction_adaptive.specs.ByContext.{learned_in, state_of, with_state}
+
+module _ {P State : Type 0} (state : P → State) (xs : List P) (i : ℕ) (x y : P) (at : x ≡ get_or xs i x) where
+  -- by one that knows the same
+  pub states-stay : state y ≡ state x → map state (set xs i y) ≡ map state xs
+  states-stay e = map-set_same state xs i y x (e ∙ ap state at)
+
+  -- by one that learned a symbol, and the context learned it
+  pub states-learned : {Context Symbol : Type 0} (next : State → Symbol → State) (number : Context → ℕ) (after : Context → Symbol → Context)
+      (c d : Context) (symbol : Symbol) (n : ℕ) → i ≡ number c → n ≡ length xs → i < n → state y ≡ next (state x) symbol → d ≡ after c symbol
+      → state_of (map state (set xs i y)) d ≡ learned_in next number after (state_of (map state xs) c) symbol
+  states-learned next number after c d symbol n is many below learned moved =
+      let found : slice_get (map state xs) (number c) ≡ Some (state x) =
+          ap (λ k. slice_get (map state xs) k) (sym is) ∙ slice_get-map state xs i ∙ ap (option_map state) (slice_get_read xs n i x many below at)
+      in
+      ap (λ context. state_of (map state (set xs i y)) context) moved
+      ∙ ap (λ states. state_of states (after c symbol))
+      (map-set state xs i y ∙ ap (set (map state xs) i) learned ∙ ap (λ k. set (map state xs) k (next (state x) symbol)) is
+      ∙ ap (λ f. with_state (map state xs) (number c) (option_map (λ s. next s symbol) f)) (sym found))
