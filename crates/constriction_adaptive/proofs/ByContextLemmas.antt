@@ -18,7 +18,7 @@ module _ {P State : Type 0} (state : P → State) (xs : List P) (i : ℕ) (x y :
       → state_of (map state (set xs i y)) d ≡ learned_in next number after (state_of (map state xs) c) symbol
   states-learned next number after c d symbol n is many below learned moved =
       let found : slice_get (map state xs) (number c) ≡ Some (state x) =
-          ap (λ k. slice_get (map state xs) k) (sym is) ∙ slice_get-map state xs i ∙ ap (option_map state) (slice_get_read xs n i x many below at)
+      ap (λ k. slice_get (map state xs) k) (sym is) ∙ slice_get-map state xs i ∙ ap (option_map state) (slice_get_read xs n i x many below at)
       in
       ap (λ context. state_of (map state (set xs i y)) context) moved
       ∙ ap (λ states. state_of states (after c symbol))

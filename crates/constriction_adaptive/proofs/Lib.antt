@@ -2,6 +2,7 @@ pub mod Bits
 pub mod ByContextLemmas
 pub mod CategoricalLemmas
 pub mod Entries
+pub mod LastSymbolsLemmas
 pub mod LeftsLemmas
 pub mod ListLemmas
 pub mod MessageReading

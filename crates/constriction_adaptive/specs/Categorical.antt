@@ -1,10 +1,14 @@
 -- A cdf of the symbols 0, 1, .. that moves towards each symbol that came. It is known by its left cumulatives.
-use Rattle.std.specs.Prelude.{ℕ, ◌+◌, ◌-◌, ◌*◌, ◌/◌, ◌^◌, List, length, map, slice_index, if◌then◌else◌, nat_le}
+use Rattle.std.specs.Prelude.{ℕ, ◌+◌, ◌-◌, ◌*◌, ◌/◌, ◌^◌, List, length, map, replicate, slice_index, if◌then◌else◌, nat_le}
 use Rattle.std.specs.List.{range_with_len}
 
 -- the left cumulatives of symbols that are all as likely, but for the last one, which also has what is left over
 abbrev pub even_lefts : (precision symbols : ℕ) → List ℕ
 even_lefts precision symbols = map (λ i. i * (2 ^ precision / symbols)) (range_with_len 0 symbols)
+
+-- those of so many predictors
+unfoldable pub even_many : (count precision symbols : ℕ) → List (List ℕ)
+even_many count precision symbols = replicate count (even_lefts precision symbols)
 
 -- Where the left cumulative of the symbol i moves after a symbol: by a 2 ^ rate-th of its way, rounded down, to where it is if each symbol
 -- has one quantile, and the one that came the `others` too.

@@ -5,6 +5,7 @@ pub mod Categorical
 pub mod Contexts
 pub mod Entries
 pub mod KnownModels
+pub mod LastSymbols
 pub mod Mixer
 pub mod Mixing
 pub mod Past

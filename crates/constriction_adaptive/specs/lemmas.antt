@@ -1,3 +1,4 @@
 pub mod Bit
 pub mod ByContext
 pub mod Categorical
+pub mod LastSymbols

@@ -11,7 +11,7 @@ use std::alloc::AllocError;
 
 /// Says from the symbols that came in which context the next symbol is.
 ///
-/// The symbols are those of a model `M`, which decides which of them are equal.
+/// The symbols are those of a model `M`, which says which of them are equal.
 pub trait Context<M, const PRECISION: usize>
 where
     M: EncoderModel<PRECISION> + DecoderModel<PRECISION>,
@@ -24,7 +24,7 @@ where
     // The number of the context of the next symbol.
     ghost number: { State → ℕ };
 
-    // So many contexts there are.
+    // How many contexts there are. No symbol changes it.
     ghost contexts: { Self → ℕ };
 
     // The state after a symbol.
@@ -47,6 +47,9 @@ where
 }
 
 /// Predicts each symbol by the predictor of its context, which alone learns it.
+///
+/// It asks for no memory but what the predictors ask for, and neither call depends on how many
+/// contexts there are.
 #[derive(Drop)]
 pub struct ByContext<P, C, const PRECISION: usize>
 where
@@ -63,7 +66,7 @@ where
     P: Predictor<PRECISION>,
     C: Context<P::Model, PRECISION>,
 {
-    /// The predictors of the contexts, in the order of their numbers.
+    /// Takes the predictors of the contexts, in the order of their numbers.
     pub fn new(predictors: Vec<P>, context: C) -> Self
         requires { length predictors.items ≡ C.contexts context }
         ensures { ⟦<ByContext<P, C, PRECISION> as Predictor<PRECISION>>⟧.state result
@@ -94,7 +97,7 @@ where
     ghost next = { learned_in P.next C.number C.next };
 
     ghost can_learn = { λ p.
-      IfSome (slice_get p.predictors.items (C.number (C.state p.context))) P.can_learn };
+        IfSome (slice_get p.predictors.items (C.number (C.state p.context))) P.can_learn };
 
     #[inline]
     fn model(&self) -> &P::Model {

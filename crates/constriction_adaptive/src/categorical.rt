@@ -1,12 +1,12 @@
 //! Symbols of an alphabet of any size, by one cdf.
 
-ghost use Rattle.std.specs.Prelude.{◌≡◌, ◌↔◌, ◌⊎◌, ◌+◌, ◌-◌, ◌*◌, ◌/◌, ◌^◌, ◌<◌, ◌≤◌, ℕ, IfOk, Err, List, length, nat_eq, slice_index};
+ghost use Rattle.std.specs.Prelude.{◌≡◌, ◌↔◌, ◌⊎◌, ◌+◌, ◌-◌, ◌*◌, ◌/◌, ◌^◌, ◌<◌, ◌≤◌, ℕ, IfOk, Err, List, length, map, nat_eq, slice_index};
 ghost use Rattle.std.specs.Cmp.{nat_eq_equiv};
 ghost use Rattle.constriction_model.specs.Precision.{IsPrecision};
 ghost use Rattle.constriction_model.specs.Rows.{contiguous_rows};
 ghost use Rattle.constriction_stored_rows.specs.Stored.{IsCdf, lefts_in, weights_of};
 ghost use Rattle.constriction_stored_rows.specs.lemmas.StoredRows.{stored-within, stored-tiles};
-ghost use Rattle.constriction_adaptive.specs.Categorical.{even_lefts, lefts_after};
+ghost use Rattle.constriction_adaptive.specs.Categorical.{even_lefts, even_many, lefts_after};
 ghost use Rattle.constriction_adaptive.specs.lemmas.Categorical.{after-same};
 
 use crate::predictor::Predictor;
@@ -122,6 +122,32 @@ impl<const RATE: u32, const PRECISION: usize> AdaptiveCategorical<RATE, PRECISIO
             Ok(cdf) => Ok(AdaptiveCategorical { cdf }),
             Err(_) => Err(ModelError::OutOfMemory),
         }
+    }
+
+    /// So many predictors, each as [`new`](Self::new) makes one, for a
+    /// [`ByContext`](crate::ByContext).
+    #[tactic(auto, unfolding(crate::specs::Categorical::even_many))]
+    pub fn new_many(alloc: Global, symbols: usize, count: usize) -> Result<Vec<Self>, ModelError>
+        requires rate { RATE < 32 }
+        requires precision { IsPrecision 32 PRECISION }
+        ensures ok { IfOk result (λ made.
+            map ⟦<AdaptiveCategorical<RATE, PRECISION> as Predictor<PRECISION>>⟧.state made.items
+            ≡ even_many count PRECISION symbols) }
+        ensures many { IfOk result (λ made. length made.items ≡ count) }
+        ensures invalid { result ≡ Err ModelError.InvalidTable
+            → (symbols ≡ 0) ⊎ ((2 ^ PRECISION < symbols) ⊎ ((PRECISION ≡ 32) × (symbols ≡ 1))) }
+    {
+        let mut made = match Vec::with_capacity(alloc, count) {
+            Ok(made) => made,
+            Err(_) => return Err(ModelError::OutOfMemory),
+        };
+        for _ in 0..count {
+            match Self::new(alloc, symbols) {
+                Ok(predictor) => made.push_reserved(predictor),
+                Err(error) => return Err(error),
+            }
+        }
+        Ok(made)
     }
 }
 
