@@ -48,8 +48,8 @@ where
 
 /// Predicts each symbol by the predictor of its context, which alone learns it.
 ///
-/// It asks for no memory but what the predictors ask for, and neither call depends on how many
-/// contexts there are.
+/// It asks for no memory but what that predictor asks for. How many contexts there are does not
+/// change how long a call takes.
 #[derive(Drop)]
 pub struct ByContext<P, C, const PRECISION: usize>
 where

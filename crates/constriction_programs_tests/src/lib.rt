@@ -8,6 +8,8 @@
 #![tactic(auto)]
 
 #[cfg(test)]
+mod by_context;
+#[cfg(test)]
 mod checks;
 #[cfg(test)]
 mod contexts;
