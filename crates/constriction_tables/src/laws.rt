@@ -9,8 +9,7 @@ use crate::model::DirectTableModel;
 use constriction_model::EntropyModel;
 
 /// No two symbols of a table are equal, however it was made. So
-/// [`to_generic_decoder_model_of_distinct`](constriction_categorical::to_generic_decoder_model_of_distinct)
-/// makes a decoder model of it without comparing symbols.
+/// `to_generic_decoder_model_of_distinct` makes a decoder model of it without comparing symbols.
 pub fn direct_table_symbols_differ<Entry: TableEntry, const PRECISION: usize>()
     ensures { (m : _) → IsDistinct (same_number Entry.number) (symbols_of
         (⟦<DirectTableModel<Entry, PRECISION> as EntropyModel<PRECISION>>⟧.rows m)) }
