@@ -14,12 +14,16 @@ use constriction::stream::model::{
     NonContiguousLookupDecoderModel, to_generic_decoder_model_of_distinct,
     to_generic_lookup_decoder_model_of_distinct,
 };
+use constriction_tables::DirectTableModel;
+use constriction_tables::laws::direct_table_symbols_differ;
 use constriction_test_support::any_symbols::{Decoder, SYMBOLS, WEIGHTS, plain};
 use constriction_test_support::contiguous::Small;
 use std::alloc::Global;
 use std::process::Abort;
 
 type Numbers = NonContiguousCategoricalDecoderModel<usize, u8, Vec<(u8, usize)>, 6>;
+
+type Bytes = NonContiguousCategoricalDecoderModel<u8, u32, Vec<(u32, u8)>, 6>;
 
 type NumberLookup = NonContiguousLookupDecoderModel<usize, u8, Vec<(u8, usize)>, Vec<u8>, 6>;
 
@@ -75,6 +79,21 @@ fn again(alloc: Global, model: &Decoder<6>) -> Result<Decoder<6>, ModelError> {
     to_generic_decoder_model_of_distinct(alloc, model)
 }
 
+/// No two bytes of a table are equal.
+fn bytes_differ(table: &DirectTableModel<u32, 6>)
+    ensures { IsDistinct nat_eq
+        (symbols_of (⟦<DirectTableModel<u32, 6> as EntropyModel<6>>⟧.rows table.now)) }
+{
+    direct_table_symbols_differ::<u32, 6>();
+}
+
+/// The decoder model with the rows of a table.
+#[tactic(auto, using(crate::proofs::DistinctLemmas::same_are_equal))]
+fn of_table(alloc: Global, table: &DirectTableModel<u32, 6>) -> Result<Bytes, ModelError> {
+    bytes_differ(table);
+    to_generic_decoder_model_of_distinct(alloc, table)
+}
+
 /// The decoder model of letters, by the constructor that hashes.
 fn hashed(alloc: Global) -> Result<Decoder<6>, ModelError> {
     Decoder::from_hashable_symbols_and_nonzero_fixed_point_probabilities(
@@ -87,4 +106,13 @@ fn models_whose_symbols_differ_are_converted_without_comparing(rt: HostRuntime) 
     looks_up(&rt, of_contiguous(rt.alloc(), &small(&rt, rt.alloc())), 2);
     let model = hashed(rt.alloc()).expect(&rt, "a model");
     has_row(&rt, &again(rt.alloc(), &model).expect(&rt, "a model"));
+    let made = DirectTableModel::from_nonzero_fixed_point_probabilities(
+        rt.alloc(),
+        &[21, 1, 42],
+        false,
+    );
+    let table = made.expect(&rt, "a table");
+    let decoder = of_table(rt.alloc(), &table).expect(&rt, "a model");
+    let (symbol, left, weight) = decoder.quantile_function(21).expect(&rt, "a row");
+    same(&rt, (symbol, left, weight.get()), (1, 21, 1));
 }
