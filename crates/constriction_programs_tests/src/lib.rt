@@ -18,8 +18,6 @@ mod known;
 #[cfg(test)]
 mod learned;
 #[cfg(test)]
-mod lent;
-#[cfg(test)]
 mod longest_input;
 #[cfg(test)]
 mod mixed;
