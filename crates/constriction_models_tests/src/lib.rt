@@ -28,6 +28,8 @@ mod reweighted;
 #[cfg(test)]
 mod search;
 #[cfg(test)]
+mod tables;
+#[cfg(test)]
 mod watched_model;
 #[cfg(test)]
 mod wide_slots;
