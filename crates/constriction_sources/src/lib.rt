@@ -10,6 +10,7 @@ mod callbacks;
 mod iterators;
 pub mod laws;
 mod read;
+mod references;
 mod small_vec;
 mod stack;
 mod vec;
