@@ -1,5 +1,6 @@
 -- What a range decoder holds, and what a symbol does to it.
-use Rattle.std.specs.Prelude.{◌≡◌, ℕ, ◌+◌, ◌-◌, ◌*◌, ◌/◌, ◌^◌, ◌<◌, ◌≤◌, ◌⊎◌, List, Contains, Option, Some, None, Result, Ok, Err, IfErr, OnErr, OnOk}
+use Rattle.std.specs.Prelude.{◌≡◌, ℕ, ◌+◌, ◌-◌, ◌*◌, ◌/◌, ◌^◌, ◌<◌, ◌≤◌, ◌⊎◌, List, Contains, Option, Some, None, Result, Ok, Err, IfErr}
+use Rattle.std.specs.Prelude.{OnErr, OnOk}
 use Rattle.constriction_words.specs.declared.CoderError.{CoderError}
 use Rattle.constriction_words.specs.declared.CoderError.TheVariants.{Frontend, Backend}
 use Rattle.constriction_model.specs.Model.{RowMayBeRefused}
@@ -18,6 +19,10 @@ interval r o = record { range = r; offset = o }
 -- how many numbers of an interval of `range` numbers belong to each quantile
 abbrev pub unit_of : (precision range : ℕ) → ℕ
 unit_of precision range = range / 2 ^ precision
+
+-- a decoder may hold this: the interval has at least 2 ^ 32 numbers, and the point is one of them or just above them
+abbrev pub DecoderMayHold : Interval → Type 0
+DecoderMayHold i = (2 ^ 32 ≤ i.range) × (i.offset ≤ i.range)
 
 -- the point lies in the part of the interval that belongs to these quantiles
 pub record HoldsPoint (precision left weight : ℕ) (i : Interval) : Type 0 where
