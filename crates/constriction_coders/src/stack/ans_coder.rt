@@ -14,8 +14,9 @@ use std::alloc::Global;
 ///
 /// It decodes from any source of a stack, as from a `Cursor` over words that are only lent, and
 /// encodes if its backend is a [`WordStack`]. If the state is below `2^32`, there is no word under
-/// it. A symbol costs a division to encode and a multiplication to decode, and at most one word is
-/// written or read.
+/// it. A symbol costs a division to encode, or multiplications alone if its entry is prepared
+/// ([`PreparedEntry`](crate::stack::PreparedEntry)), and a multiplication to decode. At most one
+/// word is written or read.
 #[derive(Drop)]
 pub struct AnsCoder<Backend: StackSource<u32>> {
     pub(crate) state: u64,
@@ -38,26 +39,27 @@ impl AnsCoder<Vec<u32>> {
     }
 }
 
-/// The state with room for a symbol of this weight. If it has no room, its low word is first moved
-/// to the stack.
+/// The state with room for a symbol of this weight over this precision. If it has no room, its low
+/// word is first moved to the stack.
 #[inline]
-pub(crate) fn with_room<Backend: WordStack<u32>, const PRECISION: usize>(
+pub(crate) fn with_room<Backend: WordStack<u32>>(
     words: &mut Backend,
     state: u64,
+    precision: usize,
     weight: u32,
 ) -> Result<u64, Backend::WriteError>
-    requires precision { IsPrecision 32 PRECISION }
+    requires precision { IsPrecision 32 precision }
     requires some { 0 < weight }
     requires whole { IsWhole state (Backend.words_of words.old) }
-    ensures room { IfOk result (λ kept. kept < weight * 2 ^ (64 - PRECISION)) }
-    ensures whole { IfOk result (λ kept. (left : ℕ) → left + weight ≤ 2 ^ PRECISION
-        → IsWhole (put PRECISION left weight kept) (Backend.words_of words.new)) }
+    ensures room { IfOk result (λ kept. kept < weight * 2 ^ (64 - precision)) }
+    ensures whole { IfOk result (λ kept. (left : ℕ) → left + weight ≤ 2 ^ precision
+        → IsWhole (put precision left weight kept) (Backend.words_of words.new)) }
     ensures ok { IfOk result (λ kept.
         Refills kept (Backend.words_of words.new) (content state (Backend.words_of words.old))) }
     ensures wrote { WritesAtMostOne Backend.write_gives words.old result words.new }
     ensures err { OnErr result (Backend.words_of words.new ≡ Backend.words_of words.old) }
 {
-    if !is_full_for::<PRECISION>(state, weight) {
+    if !is_full_for(state, precision, weight) {
         return Ok(state);
     }
     match words.push((state % (1 << 32)) as u32) {
@@ -113,7 +115,7 @@ impl<Backend: WordStack<u32>> AnsCoder<Backend> {
         ensures wrote { WritesAtMostOne Backend.write_gives self.old.words result self.new.words }
         ensures same { OnErr result (held_by self.new ≡ held_by self.old) }
     {
-        match with_room::<Backend, PRECISION>(&mut self.words, self.state, weight) {
+        match with_room(&mut self.words, self.state, PRECISION, weight) {
             Ok(kept) => {
                 self.state = with_entry::<PRECISION>(kept, left, weight);
                 Ok(())

@@ -1,39 +1,11 @@
 //! Plain bits on a stack coder: a number of `k` bits is a symbol of weight 1 over precision `k`.
 
-ghost use Rattle.std.specs.Prelude.{◌≡◌, ◌+◌, ◌-◌, ◌*◌, ◌%◌, ◌^◌, ◌<◌, ◌≤◌, ℕ, IfOk, OnErr, OnOk};
-ghost use Rattle.constriction_coders.specs.States.{put};
-ghost use Rattle.constriction_coders.specs.Steps.{content, IsOnTop, IsWhole, NeedsWord, ReadsAtMostOne, Refills, WritesAtMostOne};
+ghost use Rattle.std.specs.Prelude.{◌≡◌, ◌%◌, ◌^◌, ◌<◌, IfOk, OnErr, OnOk};
+ghost use Rattle.constriction_coders.specs.Steps.{IsOnTop, NeedsWord, ReadsAtMostOne, WritesAtMostOne};
 ghost use Rattle.constriction_model.specs.Precision.{IsPrecision};
 
-use crate::stack::ans_coder::{AnsCoder, refilled};
+use crate::stack::ans_coder::{AnsCoder, refilled, with_room};
 use constriction_backends::{StackSource, WordStack};
-
-/// The state with room for `count` bits. If it has no room, its low word is first moved to the
-/// stack.
-#[inline]
-fn with_room_for_bits<Backend: WordStack<u32>>(
-    words: &mut Backend,
-    state: u64,
-    count: u32,
-) -> Result<u64, Backend::WriteError>
-    requires count { IsPrecision 32 count }
-    requires whole { IsWhole state (Backend.words_of words.old) }
-    ensures room { IfOk result (λ kept. kept < 1 * 2 ^ (64 - count)) }
-    ensures whole { IfOk result (λ kept. (bits : ℕ) → bits + 1 ≤ 2 ^ count
-        → IsWhole (put count bits 1 kept) (Backend.words_of words.new)) }
-    ensures ok { IfOk result (λ kept.
-        Refills kept (Backend.words_of words.new) (content state (Backend.words_of words.old))) }
-    ensures wrote { WritesAtMostOne Backend.write_gives words.old result words.new }
-    ensures err { OnErr result (Backend.words_of words.new ≡ Backend.words_of words.old) }
-{
-    if state >> (64 - count) == 0 {
-        return Ok(state);
-    }
-    match words.push((state % (1 << 32)) as u32) {
-        Ok(()) => Ok(state >> 32),
-        Err(error) => Err(error),
-    }
-}
 
 impl<Backend: WordStack<u32>> AnsCoder<Backend> {
     ghost use Rattle.constriction_coders.specs.AnsCoder.{held_by};
@@ -49,7 +21,7 @@ impl<Backend: WordStack<u32>> AnsCoder<Backend> {
         ensures wrote { WritesAtMostOne Backend.write_gives self.old.words result self.new.words }
         ensures same { OnErr result (held_by self.new ≡ held_by self.old) }
     {
-        match with_room_for_bits(&mut self.words, self.state, count) {
+        match with_room(&mut self.words, self.state, count as usize, 1) {
             Ok(kept) => {
                 self.state = (kept << count) + bits as u64;
                 Ok(())

@@ -34,7 +34,7 @@ impl<Backend: WordStack<u32>> AnsCoder<Backend> {
         ensures wrote { WritesAtMostOne Backend.write_gives self.old.words result self.new.words }
         ensures same { OnErr result (held_by self.new ≡ held_by self.old) }
     {
-        match with_room::<Backend, PRECISION>(&mut self.words, self.state, entry.weight) {
+        match with_room(&mut self.words, self.state, PRECISION, entry.weight) {
             Ok(kept) => {
                 self.state = entry.put_on::<PRECISION>(kept);
                 Ok(())

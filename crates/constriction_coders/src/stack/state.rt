@@ -17,11 +17,11 @@ pub(crate) fn quantile_of<const PRECISION: usize>(state: u64) -> u32
 /// Whether the state is too great to take a symbol of this weight before a word leaves it.
 #[inline]
 #[tactic(auto, using(crate::proofs::States::full_is, crate::proofs::States::not_full_is))]
-pub(crate) fn is_full_for<const PRECISION: usize>(state: u64, weight: u32) -> bool
-    requires precision { IsPrecision 32 PRECISION }
-    ensures { IsTrue result ↔ (weight * 2 ^ (64 - PRECISION) ≤ state) }
+pub(crate) fn is_full_for(state: u64, precision: usize, weight: u32) -> bool
+    requires precision { IsPrecision 32 precision }
+    ensures { IsTrue result ↔ (weight * 2 ^ (64 - precision) ≤ state) }
 {
-    (state >> (64 - PRECISION)) >= weight as u64
+    (state >> (64 - precision)) >= weight as u64
 }
 
 /// The state with a symbol of this entry on top.

@@ -5,12 +5,12 @@ use Rattle.constriction_coders.proofs.stack.ans_coder.with_room.Goals as goal
 
 pub returns-in-Ok-clause-room : goal.returns-in-Ok-clause-room
 returns-in-Ok-clause-room g c =
-    room_after g.row.PRECISION c.args.weight c.args.state c.requires.precision.fits c.requires.some (omega (arith, c.ranges.state.fits))
+    room_after c.args.precision c.args.weight c.args.state c.requires.precision.fits c.requires.some (omega (arith, c.ranges.state.fits))
 
 pub returns-in-Ok-clause-whole : goal.returns-in-Ok-clause-whole
 returns-in-Ok-clause-whole g c = λ left within below.
-    let full : c.args.weight * 2 ^ (64 - g.row.PRECISION) ≤ c.args.state = search rules in
-    let least = least_after g.row.PRECISION left c.args.weight c.args.state c.requires.precision.fits c.requires.some full in
+    let full : c.args.weight * 2 ^ (64 - c.args.precision) ≤ c.args.state = search rules in
+    let least = least_after c.args.precision left c.args.weight c.args.state c.requires.precision.fits c.requires.some full in
     absurd (omega (arith, below, least))
 
 pub returns-in-Ok-clause-ok : goal.returns-in-Ok-clause-ok

@@ -23,6 +23,6 @@ invariant_of-self g c = record {
 
 pub returns-in-Ok-clause-ok : goal.returns-in-Ok-clause-ok
 returns-in-Ok-clause-ok g c =
-    put-on-top c.args.count c.args.bits 1 c.in-Ok.kept _ (g.Backend.StackSource.words_of c.with_room_for_bits.new.words)
+    put-on-top c.args.count c.args.bits 1 c.in-Ok.kept _ (g.Backend.StackSource.words_of c.with_room.new.words)
     (held_by c.args.self.now) (omega arith) (omega (arith, c.requires.fits))
     (put_shifted c.args.count c.args.bits c.in-Ok.kept c.requires.count.fits c.in-Ok.ensures.room) c.in-Ok.ensures.ok
