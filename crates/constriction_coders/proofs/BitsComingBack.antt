@@ -90,13 +90,13 @@ module _ {Symbol Latent PosteriorModel LikelihoodModel : Type 0}
         decoded =
             subst (λ (rs : List (Row Symbol)). IsDecoded LikelihoodStands rs likelihood_precision answer e.coded d.drawn)
             (likelihood-back symbol full old e d.latent d.likelihood.0 paid.0 d.likelihood.1)
-            (subst (λ (c : Content). IsDecoded LikelihoodStands (likelihood_rows d.likelihood.0) likelihood_precision answer c d.drawn) paid.1
-            d.likelihood.2)
+            (subst (λ (c : Content). IsDecoded LikelihoodStands (likelihood_rows d.likelihood.0) likelihood_precision answer c d.drawn)
+            paid.1 d.likelihood.2)
 
         coded : StandsForEqual LikelihoodStands likelihood_eq symbol answer × (d.drawn ≡ e.drawn)
         coded = symbol-back LikelihoodStands likelihood_eq (entry_of likelihood_eq (likelihood_rows e.likelihood.0))
-            (likelihood_rows e.likelihood.0) likelihood_bits likelihood_precision (likelihood_tile e.likelihood.0) (λ s. refl) symbol answer e.coded e.drawn
-            d.drawn e.likelihood.2 decoded
+            (likelihood_rows e.likelihood.0) likelihood_bits likelihood_precision (likelihood_tile e.likelihood.0) (λ s. refl) symbol
+            answer e.coded e.drawn d.drawn e.likelihood.2 decoded
 
         same_posterior : posterior_rows d.posterior.0 ≡ posterior_rows e.posterior.0
         same_posterior =
@@ -106,8 +106,8 @@ module _ {Symbol Latent PosteriorModel LikelihoodModel : Type 0}
         returned : IsEncoded (entry symbol full old e d.latent) posterior_precision new e.drawn
         returned =
             subst (λ (rs : List (Row Latent)). IsEncoded (entry_of posterior_eq rs d.latent) posterior_precision new e.drawn) same_posterior
-            (subst (λ (c : Content). IsEncoded (entry_of posterior_eq (posterior_rows d.posterior.0) d.latent) posterior_precision new c) coded.1
-            d.posterior.2)
+            (subst (λ (c : Content). IsEncoded (entry_of posterior_eq (posterior_rows d.posterior.0) d.latent) posterior_precision new c)
+            coded.1 d.posterior.2)
 
         again : new ≡ old
         again = encode-once (entry symbol full old e) posterior_precision (fits e.posterior.0) d.latent new old e.drawn holds held returned
@@ -138,8 +138,8 @@ module _ {Symbol Latent PosteriorModel LikelihoodModel : Type 0}
         let row : IsRowOf (likelihood_rows e.likelihood.0) (e.coded.state % 2 ^ likelihood_precision) given.2 =
         rw (likelihood-back symbol full old e latent given.0 paid.0 given.1, quantile) at given.3 in
         let own = e.likelihood.2 in
-        let equal = entry-back likelihood_bits likelihood_precision likelihood_eq (likelihood_rows e.likelihood.0) symbol own.left own.weight _ given.2
-        (likelihood_tile e.likelihood.0) own.known own.top.from own.top.to row in
+        let equal = entry-back likelihood_bits likelihood_precision likelihood_eq (likelihood_rows e.likelihood.0) symbol own.left
+        own.weight _ given.2 (likelihood_tile e.likelihood.0) own.known own.top.from own.top.to row in
         let same = equal-to LikelihoodStands likelihood_eq laws fit.clones symbol answer (given.2.symbol, equal.0, given.4) in
         let known = (drawn symbol full old e latent paid.0).known in
         let posterior = posterior-back symbol full old e answer chosen same chooses in

@@ -1,5 +1,6 @@
 -- What was encoded is decoded: a decoder holds how far the number of the words lies above the least number of each span in turn.
-use Rattle.std.proofs.Common.{◌≡◌, ℕ, ◌+◌, ◌-◌, ◌*◌, ◌/◌, ◌^◌, ◌<◌, ◌≤◌, Bool, true, List, [], get_or, drop, Option, Some, None, Result, Ok, ap, sym, ◌∙◌, subst, arith, inl, inr}
+use Rattle.std.proofs.Common.{◌≡◌, ℕ, ◌+◌, ◌-◌, ◌*◌, ◌/◌, ◌^◌, ◌<◌, ◌≤◌, Bool, true, List, [], get_or, drop, Option, Some, None, Result, Ok}
+use Rattle.std.proofs.Common.{ap, sym, ◌∙◌, subst, arith, inl, inr}
 use Rattle.std.specs.Prelude.{All}
 use Rattle.std.proofs.lemmas.Bool.{cases_lt}
 use Rattle.std.proofs.lemmas.List.{get_or-drop, drop-drop}
@@ -8,7 +9,8 @@ use Rattle.constriction_model.specs.Coding.{StandsForEqual}
 use Rattle.constriction_model.specs.lemmas.Coding.{entry-back}
 use Rattle.constriction_model.specs.Rows.{Row, RowsTile, IsRowOf, entry_of}
 use Rattle.constriction_backends.specs.Source.{ReadsUpcoming}
-use Rattle.constriction_coders.specs.Intervals.{Interval, interval, part_of, word_or_zero, HoldsPoint, IsWidenedByRead, IsStart, Held, held_of, IsRead}
+use Rattle.constriction_coders.specs.Intervals.{Interval, interval, part_of, word_or_zero, HoldsPoint, IsWidenedByRead, IsStart, Held}
+use Rattle.constriction_coders.specs.Intervals.{held_of, IsRead}
 use Rattle.constriction_coders.specs.Numbers.{number_first}
 use Rattle.constriction_coders.specs.RangeLaws.{IsAt}
 use Rattle.constriction_coders.specs.Spans.{Span, span, whole, part_in, IsWidened, IsNarrowed, LiesIn}

@@ -1,8 +1,10 @@
 -- A list is filled with symbols that are decoded, from its beginning on.
-use Rattle.std.proofs.Common.{◌≡◌, ℕ, ◌+◌, ◌-◌, ◌<◌, ◌≤◌, List, [], ◌++◌, length, take, drop, slice_set, Result, Err, refl, ap, sym, ◌∙◌, subst, arith}
+use Rattle.std.proofs.Common.{◌≡◌, ℕ, ◌+◌, ◌-◌, ◌<◌, ◌≤◌, List, [], ◌++◌, length, take, drop, slice_set, Result, Err, refl, ap, sym, ◌∙◌}
+use Rattle.std.proofs.Common.{subst, arith}
 use borrow.Rule.Slice.PartMut.{put_mid}
 use Rattle.std.proofs.lemmas.Grind.{take-set_at}
-use Rattle.std.proofs.lemmas.List.{drop-set-lt, drop_more, length-set, length-take-le, take-append-drop, take_at, drop_at, drop_all, drop-drop, length-drop, length-append, append_assoc, append-nil}
+use Rattle.std.proofs.lemmas.List.{drop-set-lt, drop_more, length-set, length-take-le, take-append-drop, take_at, drop_at, drop_all}
+use Rattle.std.proofs.lemmas.List.{drop-drop, length-drop, length-append, append_assoc, append-nil}
 use Rattle.constriction_model.specs.Coding.{InTurn}
 use Rattle.constriction_model.specs.lemmas.Turns.{turn-last}
 use Rattle.constriction_words.specs.declared.CoderError.{CoderError}
@@ -15,8 +17,9 @@ drop-next : {X : Type 0} (xs ys : List X) (i : ℕ) (x : X) → i < length xs �
 drop-next {X} xs ys i x less also same =
     ap (λ (zs : List X). drop 1 zs) (sym (drop_more xs i x less) ∙ same ∙ drop_more ys i x also)
 
-module _ {Content Symbol : Type 0} (Step : Symbol → Content → Content → Type 0) (before symbols : List Symbol) (i : ℕ) (old reached : Content)
-    (long : length symbols ≡ length before) (others : drop i symbols ≡ drop i before) (led : InTurn Step (take i symbols) old reached) where
+module _ {Content Symbol : Type 0} (Step : Symbol → Content → Content → Type 0) (before symbols : List Symbol) (i : ℕ)
+    (old reached : Content) (long : length symbols ≡ length before) (others : drop i symbols ≡ drop i before)
+    (led : InTurn Step (take i symbols) old reached) where
   -- one place more is filled
   pub fill-more : (symbol : Symbol) (new : Content) → i < length symbols → Step symbol reached new
       → (length (slice_set symbols i symbol) ≡ length before) × (drop (i + 1) (slice_set symbols i symbol) ≡ drop (i + 1) before)
@@ -28,8 +31,9 @@ module _ {Content Symbol : Type 0} (Step : Symbol → Content → Content → Ty
         (turn-last Step (take i symbols) symbol old reached new led step),
   )
 
-module _ {Coder Content Symbol : Type 0} (held : Coder → Content) (Step : Symbol → Content → Content → Type 0) (before symbols : List Symbol)
-    (i : ℕ) (old : Content) (reached : Coder) (long : length symbols ≡ length before) (others : drop i symbols ≡ drop i before)
+module _ {Coder Content Symbol : Type 0} (held : Coder → Content) (Step : Symbol → Content → Content → Type 0)
+    (before symbols : List Symbol) (i : ℕ) (old : Content) (reached : Coder)
+    (long : length symbols ≡ length before) (others : drop i symbols ≡ drop i before)
     (led : InTurn Step (take i symbols) old (held reached)) where
   pub many_taken : i ≤ length before → length (take i symbols) ≡ i
   many_taken within = length-take-le i symbols (omega (arith, within, long))

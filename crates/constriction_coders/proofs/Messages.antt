@@ -11,8 +11,9 @@ module _ {Symbol Place S : Type 0} (places : List Symbol → List Place) (entry 
     (Reads : Place → Held S → Held S → Type 0) (tells : S → List ℕ → Type 0) (Back : Symbol → Symbol → Type 0)
     (law : RangeMessageComesBack places entry precision Reads tells Back) (start : Held S) (count : ℕ) (answers : List Symbol)
     (now : Held S) (decoded : InTurn Reads (places answers) start now) (symbols : List Symbol) (words : List ℕ) (first last : Span)
-    (reached : IsReached first) (long : length symbols ≡ count) (encoded : InTurn (λ s. IsNarrowed (entry s) precision) (places symbols) first last)
-    (message : LeadTo last words) (begun : IsAt tells first words start) where
+    (reached : IsReached first) (long : length symbols ≡ count)
+    (encoded : InTurn (λ s. IsNarrowed (entry s) precision) (places symbols) first last) (message : LeadTo last words)
+    (begun : IsAt tells first words start) where
   follows : length answers ≤ length symbols → FollowsEncoder places entry precision Reads tells Back first last symbols answers words now
   follows few = law first last symbols answers words now (record {
     reached = reached;

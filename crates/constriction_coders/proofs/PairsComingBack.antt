@@ -1,5 +1,6 @@
 -- What was encoded by models, a model each, is decoded by models with the same entries.
-use Rattle.std.proofs.Common.{◌≡◌, ℕ, ◌+◌, ◌^◌, ◌<◌, Bool, List, [], ◌∷◌, ◌++◌, length, length-append, Option, Result, sym, ◌∙◌, subst, arith}
+use Rattle.std.proofs.Common.{◌≡◌, ℕ, ◌+◌, ◌^◌, ◌<◌, Bool, List, [], ◌∷◌, ◌++◌, length, length-append, Option, Result, sym, ◌∙◌, subst}
+use Rattle.std.proofs.Common.{arith}
 use Rattle.std.specs.Prelude.{All}
 use Rattle.constriction_model.specs.Coding.{InTurn}
 use Rattle.constriction_model.specs.Rows.{Row, RowsTile, entry_of}
@@ -38,7 +39,8 @@ module _ {Symbol Model Other : Type 0} (eq : Symbol → Symbol → Bool) (rows :
   pairs-back = record {
     symbols = stack-back;
     words = λ pairs others words opened left stacked compressed decoded alike.
-        stack-back pairs others opened _ left (subst (λ (c : Content). InTurn (λ s. IsEncoded (entry_by eq rows s) precision) pairs c (content 0 []))
+        stack-back pairs others opened _ left
+        (subst (λ (c : Content). InTurn (λ s. IsEncoded (entry_by eq rows s) precision) pairs c (content 0 []))
         (compressed-once stacked.full opened words stacked.compressed compressed) stacked.led) decoded alike;
   }
 
@@ -58,8 +60,8 @@ module _ {Symbol Model Other : Type 0} (eq : Symbol → Symbol → Bool) (rows :
     follow (p ∷ ps) [] first mid words start now fit e lies here d alike = absurd alike
     follow (p ∷ ps) (o ∷ os) first mid words start now fit (next, e, es) lies here (later, d, ds) alike =
         let there = lies-run (entry_by eq rows) precision words fit ps next mid es (lies (omega arith)) in
-        let back = range-symbol-back Stands eq (entry_of eq (rows p.1)) (other_rows o.1) gives tells bits precision (tile o.1) alike.0 law p.0
-        o.0 first next words start later fit
+        let back = range-symbol-back Stands eq (entry_of eq (rows p.1)) (other_rows o.1) gives tells bits precision (tile o.1) alike.0 law
+        p.0 o.0 first next words start later fit
         e there here d in
         let rest = follow ps os next mid words later now fit es (λ _. lies (omega arith)) back.1 ds alike.1 in
         ((back.0, rest.0), rest.1)

@@ -34,8 +34,9 @@ module _ {State Symbol Place : Type 0} (places : State → List Symbol → List 
   -- ---- from a stack
 
   module _ (Decodes : Place → Content → Content → Type 0)
-      (step : (state : State) (symbol answer : Symbol) (full rest under : Content) → IsEncoded (entry (put state symbol)) precision full rest
-      → Decodes (put state answer) full under → Back symbol answer × (under ≡ rest)) where
+      (step : (state : State) (symbol answer : Symbol) (full rest under : Content)
+      → IsEncoded (entry (put state symbol)) precision full rest → Decodes (put state answer) full under
+      → Back symbol answer × (under ≡ rest)) where
     symbols-back : (symbols answers : List Symbol) (state : State) (full rest under : Content)
         → InTurn (λ s. IsEncoded (entry s) precision) (places state symbols) full rest → InTurn Decodes (places state answers) full under
         → length answers ≡ length symbols → AllZip Back symbols answers × (under ≡ rest)
@@ -46,7 +47,8 @@ module _ {State Symbol Place : Type 0} (places : State → List Symbol → List 
     symbols-back [] (a ∷ ts) state full rest under e d n = absurd (omega arith)
     symbols-back (x ∷ xs) [] state full rest under e d n = absurd (omega arith)
     symbols-back (x ∷ xs) (a ∷ ts) state full rest under e d n =
-        let encoded : InTurn (λ s. IsEncoded (entry s) precision) (put state x ∷ places (next state x) xs) full rest = rw (more state x xs) at e in
+        let encoded : InTurn (λ s. IsEncoded (entry s) precision) (put state x ∷ places (next state x) xs) full rest =
+        rw (more state x xs) at e in
         let decoded : InTurn Decodes (put state a ∷ places (next state a) ts) full under = rw (more state a ts) at d in
         let first = step state x a full encoded.0 decoded.0 encoded.1 decoded.1 in
         let on : InTurn Decodes (places (next state x) ts) decoded.0 under =
@@ -75,8 +77,8 @@ module _ {State Symbol Place : Type 0} (places : State → List Symbol → List 
     abbrev Follows : State → (first last : Span) (symbols answers : List Symbol) → List ℕ → Held S → Type 0
     Follows state first last symbols answers words now =
         AllZip Back (take (length answers) symbols) answers
-        × ((s : Span) × InTurn (λ s. IsNarrowed (entry s) precision) (places state (take (length answers) symbols)) first s × IsAt tells s words now
-        × (length answers ≡ length symbols → s ≡ last))
+        × ((s : Span) × InTurn (λ s. IsNarrowed (entry s) precision) (places state (take (length answers) symbols)) first s
+        × IsAt tells s words now × (length answers ≡ length symbols → s ≡ last))
         × (length answers < length symbols → IsAboveAll precision now.held → ⊥)
 
     follows : (symbols answers : List Symbol) (state : State) (first last : Span) (words : List ℕ) (now later : Held S)
@@ -92,7 +94,8 @@ module _ {State Symbol Place : Type 0} (places : State → List Symbol → List 
         )
     follows [] (a ∷ ts) state first last words now later fit e lies here d few = absurd (omega (arith, few))
     follows (x ∷ xs) [] state first last words now later fit e lies here d few =
-        let led : InTurn (λ s. IsNarrowed (entry s) precision) (put state x ∷ places (next state x) xs) first last = rw (more state x xs) at e in
+        let led : InTurn (λ s. IsNarrowed (entry s) precision) (put state x ∷ places (next state x) xs) first last =
+        rw (more state x xs) at e in
         let there = lies-run entry precision words fit (places (next state x) xs) led.0 last led.2 (lies (omega arith)) in
         let kept : now ≡ later = rw (none state) at d in (
           tt,
@@ -106,7 +109,8 @@ module _ {State Symbol Place : Type 0} (places : State → List Symbol → List 
               (subst (λ (h : Held S). IsAboveAll precision h.held) (sym kept) above),
         )
     follows (x ∷ xs) (a ∷ ts) state first last words now later fit e lies here d few =
-        let led : InTurn (λ s. IsNarrowed (entry s) precision) (put state x ∷ places (next state x) xs) first last = rw (more state x xs) at e in
+        let led : InTurn (λ s. IsNarrowed (entry s) precision) (put state x ∷ places (next state x) xs) first last =
+        rw (more state x xs) at e in
         let read : InTurn Reads (put state a ∷ places (next state a) ts) now later = rw (more state a ts) at d in
         let there = lies-run entry precision words fit (places (next state x) xs) led.0 last led.2 (lies (omega arith)) in
         let back = step state x a first led.0 words now read.0 fit led.1 there here read.1 in
@@ -128,7 +132,8 @@ module _ {State Symbol Place : Type 0} (places : State → List Symbol → List 
         → InTurn (λ s. IsNarrowed (entry s) precision) (places state symbols) first last → 0 < length symbols → last ≡ whole → ⊥
     not-whole [] state first last bound e some all = absurd (omega (arith, some))
     not-whole (x ∷ xs) state first last bound e some all =
-        let led : InTurn (λ s. IsNarrowed (entry s) precision) (put state x ∷ places (next state x) xs) first last = rw (more state x xs) at e in
+        let led : InTurn (λ s. IsNarrowed (entry s) precision) (put state x ∷ places (next state x) xs) first last =
+        rw (more state x xs) at e in
         some-symbol entry precision positive (put state x) (places (next state x) xs) first last bound led all
 
     -- they come back from a queue

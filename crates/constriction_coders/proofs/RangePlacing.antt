@@ -1,6 +1,7 @@
 -- A place keeps its meaning: whatever is encoded after it, the number of the message lies in the span that was noted, though a carry may
 -- have changed the words before the place.
-use Rattle.std.proofs.Common.{◌≡◌, ℕ, ◌+◌, ◌-◌, ◌*◌, ◌^◌, ◌<◌, ◌≤◌, List, [], ◌∷◌, length, get_or, Option, Result, Ok, Err, refl, ap, sym, ◌∙◌, subst, arith, inl, inr}
+use Rattle.std.proofs.Common.{◌≡◌, ℕ, ◌+◌, ◌-◌, ◌*◌, ◌^◌, ◌<◌, ◌≤◌, List, [], ◌∷◌, length, get_or, Option, Result, Ok, Err, refl, ap, sym}
+use Rattle.std.proofs.Common.{◌∙◌, subst, arith, inl, inr}
 use Rattle.std.specs.Prelude.{All, IsOk}
 use Rattle.std.proofs.lemmas.List.{length-append}
 use Rattle.constriction_model.specs.Coding.{InTurn}
@@ -42,7 +43,8 @@ written-sealed s words (inr point) =
 
 module _ {Symbol S : Type 0} (entry : Symbol → Option (ℕ × ℕ)) (precision : ℕ) (positive : 0 < precision) (tells : S → List ℕ → Type 0)
   where
-    written-run : (symbols : List Symbol) (s last : Span) → InTurn (λ s. IsNarrowed (entry s) precision) symbols s last → s.written ≤ last.written
+    written-run : (symbols : List Symbol) (s last : Span) → InTurn (λ s. IsNarrowed (entry s) precision) symbols s last
+        → s.written ≤ last.written
     written-run [] s last same = omega (arith, ap (λ (x : Span). x.written) same)
     written-run (x ∷ xs) s last e =
         let rest = written-run xs e.0 last e.2 in

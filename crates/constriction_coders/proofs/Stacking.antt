@@ -22,8 +22,8 @@ rest-held precision left weight full rest fits held top =
 
 module _ {Symbol : Type 0} (entry : Symbol → Option (ℕ × ℕ)) (precision : ℕ) (fits : precision ≤ 32) where
   -- symbols are encoded in one way onto what was held before
-  run-once : (symbols : List Symbol) (a b last : Content) → MayBeHeld a → MayBeHeld b → InTurn (λ s. IsEncoded (entry s) precision) symbols a last
-      → InTurn (λ s. IsEncoded (entry s) precision) symbols b last → a ≡ b
+  run-once : (symbols : List Symbol) (a b last : Content) → MayBeHeld a → MayBeHeld b
+      → InTurn (λ s. IsEncoded (entry s) precision) symbols a last → InTurn (λ s. IsEncoded (entry s) precision) symbols b last → a ≡ b
   run-once [] a b last ha hb p q = p ∙ sym q
   run-once (s ∷ ss) a b last ha hb p q =
       let a-rest = rest-held precision p.1.left p.1.weight a p.0 fits ha p.1.top in

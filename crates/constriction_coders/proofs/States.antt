@@ -1,6 +1,7 @@
 -- A symbol that was put on a state is taken from it again.
 use Rattle.std.proofs.Common.{◌≡◌, ℕ, ◌+◌, ◌-◌, ◌*◌, ◌/◌, ◌%◌, ◌^◌, ◌<◌, ◌≤◌, ap, sym, ◌∙◌, arith}
-use Rattle.std.proofs.lemmas.Nat.{pow_pos, pow-add, div-mul-add, mod-mul-add, mod_below, mul-le, mul-add-lt, div_below, le-div, div-add-mod', one_shl, shl_whole}
+use Rattle.std.proofs.lemmas.Nat.{pow_pos, pow-add, div-mul-add, mod-mul-add, mod_below, mul-le, mul-add-lt, div_below, le-div}
+use Rattle.std.proofs.lemmas.Nat.{div-add-mod', one_shl, shl_whole}
 use Rattle.std.proofs.Math.Nat.{div-add-mod, mul_assoc, mul_comm}
 use Rattle.std.proofs.Math.Pow.{pow_mono}
 use Rattle.constriction_coders.specs.States.{put, taken}

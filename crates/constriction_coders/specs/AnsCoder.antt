@@ -1,5 +1,6 @@
 -- A stack coder as one value: what it holds, what its calls answer and leave, and what its backend was given.
-use Rattle.std.specs.Prelude.{◌≡◌, ℕ, ◌+◌, ◌*◌, ◌^◌, ◌<◌, ◌⊎◌, List, [], ◌∷◌, Option, Some, None, Result, Ok, Err, MatchResult, IfErr, OnErr}
+use Rattle.std.specs.Prelude.{◌≡◌, ℕ, ◌+◌, ◌*◌, ◌^◌, ◌<◌, ◌⊎◌, List, [], ◌∷◌, Option, Some, None, Result, Ok, Err, MatchResult, IfErr}
+use Rattle.std.specs.Prelude.{OnErr}
 use Rattle.std.specs.declared.fmt.Debug as shown
 use Rattle.constriction_words.specs.declared.CoderError.{CoderError}
 use Rattle.constriction_words.specs.declared.CoderError.TheVariants.{Frontend, Backend}

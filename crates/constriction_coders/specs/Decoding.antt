@@ -13,7 +13,8 @@ module _ {Coder Content Symbol Fault E : Type 0} (held : Coder → Content) (IsD
     pub step : Tells old answer new
 
   -- fewer than `count` symbols were decoded, and the next one was not; or none was, because memory for all of them was refused
-  pub record DecodingStops (IsRefusal : Fault → Type 0) (count : ℕ) (error : CoderError Fault E) (old : Content) (new : Coder) : Type 0 where
+  pub record DecodingStops (IsRefusal : Fault → Type 0) (count : ℕ) (error : CoderError Fault E) (old : Content) (new : Coder)
+      : Type 0 where
     pub done : List Symbol
     pub reached : Coder
     pub led : InTurn IsDecoded done old (held reached)

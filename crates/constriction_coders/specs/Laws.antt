@@ -18,8 +18,9 @@ EncodesThen entry precision symbols old P = (full : Content) × InTurn (λ s. Is
 pub record StackComesBack {Symbol Place : Type 0} (places : List Symbol → List Place) (entry : Place → Option (ℕ × ℕ)) (precision : ℕ)
     (Decodes : Place → Content → Content → Type 0) (Back : Symbol → Symbol → Type 0) : Type 0 where
   -- as many symbols come back as were encoded, and what was under them is left
-  pub symbols : (symbols answers : List Symbol) (full rest under : Content) → InTurn (λ s. IsEncoded (entry s) precision) (places symbols) full rest
-      → InTurn Decodes (places answers) full under → length answers ≡ length symbols → AllZip Back symbols answers × (under ≡ rest)
+  pub symbols : (symbols answers : List Symbol) (full rest under : Content)
+      → InTurn (λ s. IsEncoded (entry s) precision) (places symbols) full rest → InTurn Decodes (places answers) full under
+      → length answers ≡ length symbols → AllZip Back symbols answers × (under ≡ rest)
   -- the same from their words: then nothing is left
   pub words : (symbols answers : List Symbol) (words : List ℕ) (opened left : Content) → IsStackOf entry precision (places symbols) words
       → IsCompressed opened words → InTurn Decodes (places answers) opened left → length answers ≡ length symbols

@@ -42,7 +42,8 @@ module _ {Symbol Place S : Type 0} (places : List Symbol → List Place) (entry 
   pub record FollowsEncoder (Back : Symbol → Symbol → Type 0) (first last : Span) (symbols answers : List Symbol) (words : List ℕ)
       (now : Held S) : Type 0 where
     pub back : AllZip Back (take (length answers) symbols) answers
-    pub follows : (s : Span) × InTurn (λ s. IsNarrowed (entry s) precision) (places (take (length answers) symbols)) first s × IsAt tells s words now
+    pub follows : (s : Span) × InTurn (λ s. IsNarrowed (entry s) precision) (places (take (length answers) symbols)) first s
+        × IsAt tells s words now
     pub valid : length answers < length symbols → ¬ (IsAboveAll precision now.held)
     pub ends : (message more : List ℕ) → IsSealed last message → words ≡ message ++ more → length answers ≡ length symbols
         → MayBeAtEnd now.held

@@ -32,7 +32,8 @@ returns-in-Ok-decode_iid_vec-clause-back g c =
 pub returns-in-Ok-decode_iid_vec-clause-same : goal.returns-in-Ok-decode_iid_vec-clause-same
 returns-in-Ok-decode_iid_vec-clause-same g c =
     (c.symbols_come_back.ensures.all.symbols (reverse c.args.symbols.now) c.in-Ok-decode_iid_vec.answers.items _ _ _
-    (c.encoded_in_turn.ensures _ c.args.symbols.now _ _ c.in-Ok.ensures.ok) c.in-Ok-decode_iid_vec.ensures.ok (c.in-Ok-decode_iid_vec.ensures.count ∙ sym (length-reverse c.args.symbols.now))).1
+    (c.encoded_in_turn.ensures _ c.args.symbols.now _ _ c.in-Ok.ensures.ok) c.in-Ok-decode_iid_vec.ensures.ok
+    (c.in-Ok-decode_iid_vec.ensures.count ∙ sym (length-reverse c.args.symbols.now))).1
 
 pub returns-in-Ok-decode_iid_vec-clause-equal : goal.returns-in-Ok-decode_iid_vec-clause-equal
 returns-in-Ok-decode_iid_vec-clause-equal g c = λ clones.

@@ -1,4 +1,5 @@
-use Rattle.std.proofs.Common.{◌≡◌, ◌≢◌, ℕ, ◌+◌, ◌-◌, ◌<◌, length, get_or, set, length-set, get_or-set_same, get_or-set_other, ap, ◌∙◌, arith}
+use Rattle.std.proofs.Common.{◌≡◌, ◌≢◌, ℕ, ◌+◌, ◌-◌, ◌<◌, length, get_or, set, length-set, get_or-set_same, get_or-set_other, ap, ◌∙◌}
+use Rattle.std.proofs.Common.{arith}
 use Rattle.constriction_coders.specs.Numbers.{number_first}
 use Rattle.constriction_coders.proofs.NumberLemmas.{carried, all-full}
 use Rattle.constriction_coders.proofs.queue.carrying.carry.Goals as goal

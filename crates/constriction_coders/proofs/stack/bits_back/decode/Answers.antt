@@ -24,7 +24,8 @@ returns-in_default-clause-same g c =
 
 pub returns-in_default-clause-impossible : goal.returns-in_default-clause-impossible
 returns-in_default-clause-impossible g c = λ fault is.
-    let taken = subst (λ (ws : List ℕ). IsOnTop g.row.PRIOR_PRECISION c.in-Ok.answer.1.0 c.in-Ok.answer.1.1 (content c.args.coder.now.state ws)
+    let taken = subst (λ (ws : List ℕ).
+    IsOnTop g.row.PRIOR_PRECISION c.in-Ok.answer.1.0 c.in-Ok.answer.1.1 (content c.args.coder.now.state ws)
     (held_by c.take_from_vec.new.coder)) c.reserve.ensures.items c.take_from_vec.ensures.under in
     let row = c.in-Ok-symbol_and_entry.ensures.row in (
       c.in-Ok.answer.0,
@@ -47,7 +48,8 @@ returns-in_default-clause-impossible g c = λ fault is.
 
 pub returns-clause-ok : goal.returns-clause-ok
 returns-clause-ok g c =
-    let taken = subst (λ (ws : List ℕ). IsOnTop g.row.PRIOR_PRECISION c.in-Ok.answer.1.0 c.in-Ok.answer.1.1 (content c.args.coder.now.state ws)
+    let taken = subst (λ (ws : List ℕ).
+    IsOnTop g.row.PRIOR_PRECISION c.in-Ok.answer.1.0 c.in-Ok.answer.1.1 (content c.args.coder.now.state ws)
     (held_by c.take_from_vec.new.coder)) c.reserve.ensures.items c.take_from_vec.ensures.under in
     let coded =
     decoded g.row.LIKELIHOOD_PRECISION c.in-Ok-symbol_and_entry.answer.1.0 c.in-Ok-symbol_and_entry.answer.1.1

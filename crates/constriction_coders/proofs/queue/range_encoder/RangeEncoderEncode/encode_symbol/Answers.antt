@@ -7,8 +7,8 @@ pub invariant_of-self : goal.invariant_of-self
 invariant_of-self g c =
     let precision = c.entry_of_symbol.ensures.precision in
     let words = c.self.inside.words.items in
-    part-reached g.row.PRECISION c.in-Some.left c.in-Some.weight precision.positive precision.fits c.in-Some.ensures.some c.in-Some.ensures.within
-    (span_of words c.self.inside.lower c.self.inside.range) c.self.invariant _
+    part-reached g.row.PRECISION c.in-Some.left c.in-Some.weight precision.positive precision.fits
+    c.in-Some.ensures.some c.in-Some.ensures.within (span_of words c.self.inside.lower c.self.inside.range) c.self.invariant _
     (widened-wide g.row.PRECISION c.in-Some.left c.in-Some.weight words c.raised-self-inside.new.words.items c.self.inside.lower
     c.self.inside.range c.unit_of-unit.result c.raised-self-inside.result _ c.unit_of-unit.ensures.value
     c.raised-self-inside.ensures.value refl c.raised-self-inside.ensures.length c.if-range.true)
@@ -20,8 +20,8 @@ invariant_of-self-2 g c =
     let same = c.in-Ok.ensures.items in
     let low = rw same at c.raised-lower.ensures.value in
     let long = rw same at c.raised-lower.ensures.length in
-    part-reached g.row.PRECISION c.in-Some.left c.in-Some.weight precision.positive precision.fits c.in-Some.ensures.some c.in-Some.ensures.within
-    (span_of words c.self.inside.lower c.self.inside.range) c.self.invariant _
+    part-reached g.row.PRECISION c.in-Some.left c.in-Some.weight precision.positive precision.fits
+    c.in-Some.ensures.some c.in-Some.ensures.within (span_of words c.self.inside.lower c.self.inside.range) c.self.invariant _
     (widened-small g.row.PRECISION c.in-Some.left c.in-Some.weight words c.raised-lower.new.words.items c.self.inside.lower
     c.self.inside.range c.unit_of-unit.result c.raised-lower.result (c.unit_of-unit.result * c.in-Some.weight) c.unit_of-unit.ensures.value
     low refl long c.widened-self-inside.new.words.items c.widened-self-inside.result

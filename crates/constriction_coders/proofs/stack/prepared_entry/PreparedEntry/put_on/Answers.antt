@@ -6,7 +6,8 @@ pub overflow_add-result-2 : goal.overflow_add-result-2
 overflow_add-result-2 g c =
     let entry = c.args.self.now in
     let whole = shifted g.row.PRECISION entry.left entry.weight c.args.state entry.some c.requires.within c.requires.fits c.requires.room in
-    let below = put_below g.row.PRECISION entry.left entry.weight c.args.state entry.some c.requires.within c.requires.fits c.requires.room in
+    let below = put_below g.row.PRECISION entry.left entry.weight c.args.state entry.some c.requires.within c.requires.fits
+    c.requires.room in
     rw (c.divided-quotient.ensures.quotient, c.divided-quotient.ensures.remainder) (omega (arith, whole, below))
 
 pub returns : goal.returns
