@@ -1,6 +1,6 @@
 //! Callers that store a table of weights as bytes, proved from the contracts alone.
 
-ghost use Rattle.std.specs.Prelude.{◌≡◌, [], ◌∷◌, IfSome};
+ghost use Rattle.std.specs.Prelude.{◌≡◌, [], ◌∷◌, IfSome, sum};
 
 use constriction_stored_weights::{read_table, table_comes_back, write_table};
 use std::alloc::Global;
@@ -52,10 +52,20 @@ pub fn second_of_two(alloc: Global, first: &[u32; 256], second: &[u32; 256]) -> 
     Some(read)
 }
 
+/// The weights of a table with which bytes begin.
+pub fn whole(alloc: Global, bytes: &[u8]) -> Option<Vec<u32>>
+    ensures { IfSome result (λ read. sum read.items ≡ 4096) }
+{
+    let Ok((read, _taken)) = read_table::<12>(alloc, bytes, 256) else {
+        return None;
+    };
+    Some(read)
+}
+
 #[cfg(test)]
 mod tests {
-    use super::{WEIGHTS, back, before_others, second_of_two};
-    use crate::checks::holds;
+    use super::{WEIGHTS, back, before_others, second_of_two, whole};
+    use crate::checks::{holds, same};
 
     /// The same weight for each byte.
     const EVEN: [u32; 256] = [16; 256];
@@ -68,5 +78,12 @@ mod tests {
         holds(&rt, &read, &EVEN);
         let read = second_of_two(rt.alloc(), &EVEN, &EVEN).expect(&rt, "memory");
         holds(&rt, &read, &EVEN);
+    }
+
+    #[test]
+    fn weights_above_their_total_are_refused(rt: HostRuntime) {
+        // 4,095 and then 2
+        let read = whole(rt.alloc(), &[0xCF, 0xFE, 0x40]);
+        same(&rt, read.is_none(), true);
     }
 }
