@@ -13,6 +13,8 @@ mod checks;
 #[cfg(test)]
 mod cursors;
 #[cfg(test)]
+mod lent_backends;
+#[cfg(test)]
 mod numbers;
 #[cfg(test)]
 mod positions;

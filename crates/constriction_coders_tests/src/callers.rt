@@ -12,7 +12,7 @@ ghost use Rattle.constriction_coders.specs.Steps.{IsDecoded, IsEncoded};
 mod any_coder;
 mod own_models;
 pub mod prepared;
-mod queue;
+pub mod queue;
 mod stack;
 mod tables;
 mod words;

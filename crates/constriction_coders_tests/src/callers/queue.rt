@@ -3,10 +3,12 @@
 ghost use Rattle.std.specs.Prelude.{IfSome};
 ghost use Rattle.std.specs.List.{AllZip};
 ghost use Rattle.constriction.specs.Coding.{StandsForEqual};
+ghost use Rattle.constriction_backends.specs.Cursor.{buf_of};
+ghost use Rattle.constriction_coders.specs.RangeDecoder.{held_by};
 
-use constriction::Pos;
-use constriction::backends::Cursor;
+use constriction::backends::{Cursor, ReadWords};
 use constriction::stream::model::{DecoderModel, EncoderModel};
+use constriction::{Pos, Queue};
 use constriction_coders::laws::{
     message_comes_back, message_from, message_of, range_place_comes_back, range_places_come_back,
     range_symbols_come_back, sealed_words_tell,
@@ -122,6 +124,39 @@ where
     match decoder.decode_iid_vec::<M>(alloc, second.len(), model) {
         Ok(answers) => Some(answers),
         Err(_) => None,
+    }
+}
+
+/// A symbol from a cursor that is lent to a decoder. The cursor keeps its words.
+pub fn from_a_lent_cursor<D, const PRECISION: usize>(
+    model: &D,
+    cursor: &mut Cursor<u32, Vec<u32>>,
+) -> Option<D::Symbol>
+where
+    D: DecoderModel<PRECISION, Probability: ModelWord>,
+    D::Symbol: Drop,
+    ensures { buf_of cursor.new ≡ buf_of cursor.old }
+{
+    let mut decoder = match RangeDecoder::from_compressed(&mut *cursor) {
+        Ok(decoder) => decoder,
+        Err(never) => match never {},
+    };
+    match decoder.decode_symbol(model) {
+        Ok(symbol) => Some(symbol),
+        Err(_) => None,
+    }
+}
+
+/// A decoder that is taken apart and made of its parts again.
+pub fn put_together<Source: ReadWords<u32, Queue> + Drop>(
+    decoder: RangeDecoder<Source>,
+) -> RangeDecoder<Source>
+    ensures { held_by result ≡ held_by decoder }
+{
+    let (source, range, offset) = decoder.into_raw_parts();
+    match RangeDecoder::from_raw_parts(source, range, offset) {
+        Ok(decoder) => decoder,
+        Err(_) => unreachable!(),
     }
 }
 
