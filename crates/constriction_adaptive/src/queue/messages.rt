@@ -95,6 +95,7 @@ where
         → Source.tells_upcoming source (words ++ more)
         → AllZip (StandsForEqual P.Model.stands_for P.Model.symbol_eq) symbols answers.items
         × (P.state predictor.new ≡ fold P.next (P.state predictor.old) symbols)) }
+    ensures count { IfOk result (λ answers. length answers.items ≡ count) }
     ensures valid { result ≡ Err (CoderError.Frontend DecoderFrontendError.InvalidData)
         → (symbols : List P.Symbol) (words more : List ℕ) → length symbols ≡ count → IsMessageFrom
         (predicted_entry P.rows P.Model.symbol_eq) P.next PRECISION (P.state predictor.old) symbols
@@ -139,6 +140,7 @@ where
         → IsMessageFrom (predicted_entry P.rows P.Model.symbol_eq) P.next PRECISION first symbols
         message → All (λ w. w < 2 ^ 32) more → words.now ≡ message ++ more
         → answers.items ≡ symbols) }
+    ensures count { IfOk result (λ answers. length answers.items ≡ count) }
     ensures valid { result ≡ Err DecoderFrontendError.InvalidData
         → (first : P.State) (symbols : List P.Symbol) (message more : List ℕ)
         → P.state predictor.old ≡ first → length symbols ≡ count

@@ -133,6 +133,7 @@ where
         → length symbols ≡ count → IsMessageOf (entry_of E.symbol_eq (E.rows encoder.now)) PRECISION
         symbols words → All (λ w. w < 2 ^ 32) more → Source.tells_upcoming source (words ++ more)
         → AllZip (StandsForEqual D.stands_for E.symbol_eq) symbols answers.items) }
+    ensures count { IfOk result (λ answers. length answers.items ≡ count) }
     ensures valid { result ≡ Err (CoderError.Frontend DecoderFrontendError.InvalidData)
         → (symbols : List D.Symbol) (words more : List ℕ) → length symbols ≡ count
         → IsMessageOf (entry_of E.symbol_eq (E.rows encoder.now)) PRECISION symbols words
