@@ -1,10 +1,14 @@
--- The bits of bytes.
-use Rattle.std.proofs.Common.{◌≡◌, ℕ, suc, zero, ◌+◌, ◌*◌, ◌/◌, ◌%◌, ◌<◌, Bool, true, false, List, [], ◌∷◌, ◌++◌, length, take, drop, get_or, refl, ap, sym, ◌∙◌, arith, nat_eq}
+-- The bits of numbers.
+use Rattle.std.proofs.Common.{◌≡◌, ℕ, suc, zero, ◌+◌, ◌-◌, ◌*◌, ◌/◌, ◌%◌, ◌^◌, ◌<◌, ◌≤◌, Bool, true, false, List, [], ◌∷◌, ◌++◌, length, map, take, drop, get_or, refl, ap, subst, sym, ◌∙◌, arith, nat_eq}
 use Rattle.std.specs.Prelude.{All}
-use Rattle.std.proofs.lemmas.List.{append_assoc, length-append, append-nil, take_more}
+use Rattle.std.proofs.lemmas.List.{append_assoc, length-append, append-nil, get_or-map, length-map, map-append, take_at, take_more, drop_at}
+use Rattle.std.proofs.lemmas.List.Elements.{All-from_get_or, All-head, All-map, All-push, All-tail}
+use Rattle.std.proofs.Math.Nat.{div-eq_of_lt}
+use Rattle.std.proofs.lemmas.Nat.{shr-shr}
 use Rattle.constriction_adaptive.specs.Bit.{bit_number}
-use Rattle.constriction_adaptive.specs.Bytes.{bits_of, all_bits, number_from}
+use Rattle.constriction_adaptive.specs.Numbers.{bits_of, all_bits}
 
+-- a bit is 0 or 1
 pub bit-small : (b : Bool) → bit_number b < 2
 bit-small false = omega arith
 bit-small true = omega arith
@@ -18,96 +22,126 @@ number-bit zero less = refl
 number-bit (suc zero) less = refl
 number-bit (suc (suc m)) less = absurd (omega (arith, less))
 
--- one bit more
-pub number-push : (n : ℕ) (bs : List Bool) (b : Bool) → number_from n (bs ++ b ∷ []) ≡ 2 * number_from n bs + bit_number b
-number-push n [] b = refl
-number-push n (x ∷ xs) b = number-push (2 * n + bit_number x) xs b
+bit-once : (m n : ℕ) → m < 2 → n < 2 → nat_eq m 1 ≡ nat_eq n 1 → m ≡ n
+bit-once m n p q same = sym (number-bit m p) ∙ ap bit_number same ∙ number-bit n q
 
--- eight bits are the bits of their number
-bits-back : (a b c d e f g h : Bool) → bits_of (number_from 0 (a ∷ b ∷ c ∷ d ∷ e ∷ f ∷ g ∷ h ∷ []))
-    ≡ a ∷ b ∷ c ∷ d ∷ e ∷ f ∷ g ∷ h ∷ []
-bits-back a b c d e f g h =
-    let n : ℕ = number_from 0 (a ∷ b ∷ c ∷ d ∷ e ∷ f ∷ g ∷ h ∷ []) in
-    let sa = bit-small a in
-    let sb = bit-small b in
-    let sc = bit-small c in
-    let sd = bit-small d in
-    let se = bit-small e in
-    let sf = bit-small f in
-    let sg = bit-small g in
-    let sh = bit-small h in
-    let first : nat_eq (n / 128 % 2) 1 ≡ a = bit-back a _ (omega arith) in
-    let second : nat_eq (n / 64 % 2) 1 ≡ b = bit-back b _ (omega arith) in
-    let third : nat_eq (n / 32 % 2) 1 ≡ c = bit-back c _ (omega arith) in
-    let fourth : nat_eq (n / 16 % 2) 1 ≡ d = bit-back d _ (omega arith) in
-    let fifth : nat_eq (n / 8 % 2) 1 ≡ e = bit-back e _ (omega arith) in
-    let sixth : nat_eq (n / 4 % 2) 1 ≡ f = bit-back f _ (omega arith) in
-    let seventh : nat_eq (n / 2 % 2) 1 ≡ g = bit-back g _ (omega arith) in
-    let eighth : nat_eq (n % 2) 1 ≡ h = bit-back h _ (omega arith) in
-    rw (first, second, third, fourth, fifth, sixth, seventh, eighth) refl
+-- ---- one number
 
--- a byte that was made of eight bits has these bits
-pub eight-back : (bits : List Bool) (byte : ℕ) → length bits ≡ 8 → number_from 0 bits % 256 ≡ byte → bits_of byte ≡ bits
-eight-back (a ∷ b ∷ c ∷ d ∷ e ∷ f ∷ g ∷ h ∷ []) byte eight is =
-    let sa = bit-small a in
-    let sb = bit-small b in
-    let sc = bit-small c in
-    let sd = bit-small d in
-    let se = bit-small e in
-    let sf = bit-small f in
-    let sg = bit-small g in
-    let sh = bit-small h in
-    let number : byte ≡ number_from 0 (a ∷ b ∷ c ∷ d ∷ e ∷ f ∷ g ∷ h ∷ []) = omega (arith, is) in
-    ap bits_of number ∙ bits-back a b c d e f g h
-eight-back [] byte eight is = absurd (omega (arith, eight))
-eight-back (a ∷ []) byte eight is = absurd (omega (arith, eight))
-eight-back (a ∷ b ∷ []) byte eight is = absurd (omega (arith, eight))
-eight-back (a ∷ b ∷ c ∷ []) byte eight is = absurd (omega (arith, eight))
-eight-back (a ∷ b ∷ c ∷ d ∷ []) byte eight is = absurd (omega (arith, eight))
-eight-back (a ∷ b ∷ c ∷ d ∷ e ∷ []) byte eight is = absurd (omega (arith, eight))
-eight-back (a ∷ b ∷ c ∷ d ∷ e ∷ f ∷ []) byte eight is = absurd (omega (arith, eight))
-eight-back (a ∷ b ∷ c ∷ d ∷ e ∷ f ∷ g ∷ []) byte eight is = absurd (omega (arith, eight))
-eight-back (a ∷ b ∷ c ∷ d ∷ e ∷ f ∷ g ∷ h ∷ i ∷ more) byte eight is = absurd (omega (arith, eight))
+-- no bits
+pub no-bits : (n : ℕ) → bits_of 0 n ≡ []
+unfolding bits_of
+no-bits n = refl
 
--- the number of the bits of a byte is the byte
-bits-number : (b : ℕ) → b < 256 → number_from 0 (bits_of b) ≡ b
-bits-number b small =
-    let b7 = number-bit (b / 128 % 2) (omega arith) in
-    let b6 = number-bit (b / 64 % 2) (omega arith) in
-    let b5 = number-bit (b / 32 % 2) (omega arith) in
-    let b4 = number-bit (b / 16 % 2) (omega arith) in
-    let b3 = number-bit (b / 8 % 2) (omega arith) in
-    let b2 = number-bit (b / 4 % 2) (omega arith) in
-    let b1 = number-bit (b / 2 % 2) (omega arith) in
-    let b0 = number-bit (b % 2) (omega arith) in
-    rw (b7, b6, b5, b4, b3, b2, b1, b0) (omega (arith, small))
+-- the highest bit, and the others
+pub bits-first : (width n : ℕ) → bits_of (suc width) n ≡ nat_eq (n / 2 ^ width % 2) 1 ∷ bits_of width n
+unfolding bits_of
+bits-first width n = refl
 
--- the bits of one byte more
-pub all-bits-push : (xs : List ℕ) (x : ℕ) → all_bits (xs ++ x ∷ []) ≡ all_bits xs ++ bits_of x
-all-bits-push [] x = append-nil (bits_of x)
-all-bits-push (y ∷ ys) x =
-    ap (λ (bs : List Bool). bits_of y ++ bs) (all-bits-push ys x) ∙ sym (append_assoc (bits_of y) (all_bits ys) (bits_of x))
+-- a number has as many bits as its width
+pub bits-length : (width n : ℕ) → length (bits_of width n) ≡ width
+bits-length zero n = ap length (no-bits n)
+bits-length (suc width) n = omega (arith, ap length (bits-first width n), bits-length width n)
 
--- one byte more has eight bits more
-pub all-bits-take : (xs : List ℕ) (i : ℕ) → i < length xs → all_bits (take (i + 1) xs) ≡ all_bits (take i xs) ++ bits_of (get_or xs i 0)
-all-bits-take xs i less = ap all_bits (take_more xs i 0 less) ∙ all-bits-push (take i xs) (get_or xs i 0)
+-- the bits after so many: the next one, and the others
+pub bits-from : (width done n : ℕ) → done < width
+    → bits_of (width - done) n ≡ nat_eq (n / 2 ^ (width - 1 - done) % 2) 1 ∷ bits_of (width - (done + 1)) n
+bits-from width done n less =
+    let one : width - done ≡ suc (width - 1 - done) = omega (arith, less) in
+    let same : width - 1 - done ≡ width - (done + 1) = omega arith in
+    ap (λ k. bits_of k n) one ∙ bits-first (width - 1 - done) n
+    ∙ ap (λ k. nat_eq (n / 2 ^ (width - 1 - done) % 2) 1 ∷ bits_of k n) same
 
--- bytes have eight bits each
-pub all-bits-length : (xs : List ℕ) → length (all_bits xs) ≡ 8 * length xs
-all-bits-length [] = refl
-all-bits-length (x ∷ xs) = omega (arith, length-append (bits_of x) (all_bits xs), all-bits-length xs)
+-- after as many bits as the width none is left
+pub all-done : (n width done : ℕ) (front : List Bool) → bits_of width n ≡ front ++ bits_of (width - done) n → width ≤ done
+    → bits_of width n ≡ front
+all-done n width done front split ended =
+    let none : width - done ≡ 0 = omega (arith, ended) in
+    split ∙ ap (λ k. front ++ bits_of k n) none ∙ ap (λ bs. front ++ bs) (no-bits n) ∙ append-nil front
 
--- bits are those of one list of bytes
-pub bytes-once : (xs ys : List ℕ) → All (λ b. b < 256) xs → All (λ b. b < 256) ys → length xs ≡ length ys → all_bits xs ≡ all_bits ys
-    → xs ≡ ys
-bytes-once [] [] p q long same = refl
-bytes-once [] (y ∷ ys) p q long same = absurd (omega (arith, long))
-bytes-once (x ∷ xs) [] p q long same = absurd (omega (arith, long))
-bytes-once (x ∷ xs) (y ∷ ys) p q long same =
-    let bits : bits_of x ≡ bits_of y = ap (take 8) same in
-    let others : all_bits xs ≡ all_bits ys = ap (drop 8) same in
-    let one : x ≡ y =
-    sym (bits-number x (p 0 x (omega arith))) ∙ ap (λ (bs : List Bool). number_from 0 bs) bits ∙ bits-number y (q 0 y (omega arith)) in
-    ap (λ z. z ∷ xs) one
-    ∙ ap (λ (zs : List ℕ). y ∷ zs)
-    (bytes-once xs ys (λ k d m. p (suc k) d (omega (arith, m))) (λ k d m. q (suc k) d (omega (arith, m))) (omega (arith, long)) others)
+-- one bit more below a number
+pub bits-push : (width n : ℕ) (b : Bool) → bits_of (suc width) (2 * n + bit_number b) ≡ bits_of width n ++ b ∷ []
+bits-push zero n b =
+    let m : ℕ = 2 * n + bit_number b in
+    let low : m / 2 ^ 0 % 2 ≡ bit_number b = omega (arith, bit-small b) in
+    bits-first 0 m ∙ ap (λ c. c ∷ bits_of 0 m) (bit-back b (m / 2 ^ 0 % 2) low) ∙ ap (λ bs. b ∷ bs) (no-bits m)
+    ∙ sym (ap (λ bs. bs ++ b ∷ []) (no-bits n))
+bits-push (suc width) n b =
+    let m : ℕ = 2 * n + bit_number b in
+    let half : m / 2 ≡ n = omega (arith, bit-small b) in
+    let shifted : m / 2 ^ suc width ≡ n / 2 ^ width =
+    sym (shr-shr m 1 width ∙ ap (λ k. m / 2 ^ k) (omega arith)) ∙ ap (λ k. k / 2 ^ width) half in
+    bits-first (suc width) m ∙ ap (λ k. nat_eq (k % 2) 1 ∷ bits_of (suc width) m) shifted
+    ∙ ap (λ bs. nat_eq (n / 2 ^ width % 2) 1 ∷ bs) (bits-push width n b) ∙ sym (ap (λ bs. bs ++ b ∷ []) (bits-first width n))
+
+-- numbers with the same bits and the same rest above them are one
+bits-once : (width a b : ℕ) → a / 2 ^ width ≡ b / 2 ^ width → bits_of width a ≡ bits_of width b → a ≡ b
+bits-once zero a b above same = omega arith
+bits-once (suc width) a b above same =
+    let both = sym (bits-first width a) ∙ same ∙ bits-first width b in
+    let high : a / 2 ^ width % 2 ≡ b / 2 ^ width % 2 =
+    bit-once (a / 2 ^ width % 2) (b / 2 ^ width % 2) (omega arith) (omega arith) (ap (λ bs. get_or bs 0 false) both) in
+    let one : width + 1 ≡ suc width = omega arith in
+    let halves : a / 2 ^ width / 2 ≡ b / 2 ^ width / 2 =
+    shr-shr a width 1 ∙ ap (λ k. a / 2 ^ k) one ∙ above ∙ sym (shr-shr b width 1 ∙ ap (λ k. b / 2 ^ k) one) in
+    bits-once width a b (omega (arith, high, halves)) (ap (drop 1) both)
+
+-- ---- numbers of one width
+
+module _ (width : ℕ) where
+  -- the bits of one number more
+  pub all-bits-push : (xs : List ℕ) (x : ℕ) → all_bits width (xs ++ x ∷ []) ≡ all_bits width xs ++ bits_of width x
+  all-bits-push [] x = append-nil (bits_of width x)
+  all-bits-push (y ∷ ys) x =
+      ap (λ (bs : List Bool). bits_of width y ++ bs) (all-bits-push ys x)
+      ∙ sym (append_assoc (bits_of width y) (all_bits width ys) (bits_of width x))
+
+  module _ {Word : Type 0} (number : Word → ℕ) (xs : List Word) (i : ℕ) (x : Word) (less : i < length xs) (is : x ≡ get_or xs i x) where
+    one-more : map number (take (i + 1) xs) ≡ map number (take i xs) ++ number x ∷ []
+    one-more =
+        ap (map number) (take_more xs i x less ∙ ap (λ y. take i xs ++ y ∷ []) (sym is)) ∙ map-append number (take i xs) (x ∷ [])
+
+    -- the bits of the numbers of one word more
+    pub all-bits-take : all_bits width (map number (take (i + 1) xs)) ≡ all_bits width (map number (take i xs)) ++ bits_of width (number x)
+    all-bits-take = ap (all_bits width) one-more ∙ all-bits-push (map number (take i xs)) (number x)
+
+    -- they fit if it does
+    pub small-take : All (λ n. n < 2 ^ width) (map number (take i xs)) → number x < 2 ^ width
+        → All (λ n. n < 2 ^ width) (map number (take (i + 1) xs))
+    small-take small fits =
+        subst (λ (ns : List ℕ). All (λ n. n < 2 ^ width) ns) (sym one-more)
+        (All-push (λ n. n < 2 ^ width) (map number (take i xs)) (number x) small fits)
+
+    -- if all fit, it does
+    pub small-at : All (λ n. n < 2 ^ width) (map number xs) → number x < 2 ^ width
+    small-at small =
+        subst (λ m. m < 2 ^ width) (get_or-map number xs i x (number x) less ∙ ap number (sym is))
+        (small i (number x) (omega (arith, less, length-map xs number)))
+
+  -- numbers have as many bits each as their width
+  pub all-bits-length : (xs : List ℕ) → length (all_bits width xs) ≡ width * length xs
+  all-bits-length [] = omega arith
+  all-bits-length (x ∷ xs) = omega (arith, length-append (bits_of width x) (all_bits width xs), bits-length width x, all-bits-length xs)
+
+  -- bits are those of one list of numbers
+  pub numbers-once : (xs ys : List ℕ) → All (λ n. n < 2 ^ width) xs → All (λ n. n < 2 ^ width) ys → length xs ≡ length ys
+      → all_bits width xs ≡ all_bits width ys → xs ≡ ys
+  numbers-once [] [] p q long same = refl
+  numbers-once [] (y ∷ ys) p q long same = absurd (omega (arith, long))
+  numbers-once (x ∷ xs) [] p q long same = absurd (omega (arith, long))
+  numbers-once (x ∷ xs) (y ∷ ys) p q long same =
+      let bits : bits_of width x ≡ bits_of width y =
+      sym (take_at (bits_of width x) (all_bits width xs) width (bits-length width x)) ∙ ap (take width) same
+      ∙ take_at (bits_of width y) (all_bits width ys) width (bits-length width y) in
+      let others : all_bits width xs ≡ all_bits width ys =
+      sym (drop_at (bits_of width x) (all_bits width xs) width (bits-length width x)) ∙ ap (drop width) same
+      ∙ drop_at (bits_of width y) (all_bits width ys) width (bits-length width y) in
+      let none : x / 2 ^ width ≡ y / 2 ^ width =
+      div-eq_of_lt (All-head (λ n. n < 2 ^ width) x xs p) ∙ sym (div-eq_of_lt (All-head (λ n. n < 2 ^ width) y ys q)) in
+      ap (λ z. z ∷ xs) (bits-once width x y none bits)
+      ∙ ap (λ (zs : List ℕ). y ∷ zs)
+      (numbers-once xs ys (All-tail (λ n. n < 2 ^ width) x xs p) (All-tail (λ n. n < 2 ^ width) y ys q) (omega (arith, long)) others)
+
+-- bytes are numbers of 8 bits
+pub bytes-fit : (bytes : List ℕ) → ((i : ℕ) → get_or bytes i 0 < 256) → All (λ n. n < 2 ^ 8) (map (λ n. n) bytes)
+bytes-fit bytes fit =
+    All-map (λ n. n < 2 ^ 8) (λ n. n) bytes (All-from_get_or (λ n. n < 2 ^ 8) bytes 0 (λ i less. fit i))

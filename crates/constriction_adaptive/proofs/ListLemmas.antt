@@ -1,5 +1,5 @@
 -- Lists that loops write, and sums over them.
-use Rattle.std.proofs.Common.{◌≡◌, ◌≢◌, ℕ, ◌+◌, ◌<◌, List, length, map, get_or, set, sym, ◌∙◌, ap, arith, zero-add, get_or-set_other, get_or-set_same, below_more, sum}
+use Rattle.std.proofs.Common.{◌≡◌, ◌≢◌, ℕ, ◌+◌, ◌<◌, List, [], ◌∷◌, length, map, drop, get_or, set, refl, sym, ◌∙◌, ap, arith, zero-add, get_or-set_other, get_or-set_same, below_more, sum}
 use Rattle.std.specs.List.{range_with_len}
 use Rattle.std.proofs.lemmas.List.{ext_get_or, get_or-map, length-map}
 use Rattle.std.proofs.lemmas.List.FromFn.{sum_by-map-range_with_len_more}
@@ -22,3 +22,13 @@ set_more P xs i v within before here =
 -- one term more
 pub sum_more : (f : ℕ → ℕ) (i s : ℕ) → s ≡ sum (map f (range_with_len 0 i)) → s + f i ≡ sum (map f (range_with_len 0 (i + 1)))
 sum_more f i s e = ap (λ t. t + f i) e ∙ sym (sum_by-map-range_with_len_more (λ x. x) f 0 i i (zero-add i))
+
+-- words with the same numbers are the same, if each number has one word
+pub map-once : {Word : Type 0} (number : Word → ℕ) → ((a b : Word) → number a ≡ number b → a ≡ b) → (xs ys : List Word)
+    → map number xs ≡ map number ys → xs ≡ ys
+map-once number once [] [] same = refl
+map-once number once [] (y ∷ ys) same = absurd (omega (arith, ap length same))
+map-once number once (x ∷ xs) [] same = absurd (omega (arith, ap length same))
+map-once number once (x ∷ xs) (y ∷ ys) same =
+    ap (λ z. z ∷ xs) (once x y (ap (λ ns. get_or ns 0 0) same))
+    ∙ ap (λ zs. y ∷ zs) (map-once number once xs ys (ap (drop 1) same))

@@ -1,5 +1,5 @@
--- The words of a message of bytes are words from which the bytes are read.
-use Rattle.std.proofs.Common.{◌≡◌, ℕ, ◌+◌, ◌-◌, ◌*◌, ◌^◌, ◌<◌, ◌≤◌, Bool, List, [], ◌∷◌, ◌++◌, length, Option, Some, None, Result, Ok, Err, refl, sym, ◌∙◌, subst, arith, inl, inr, ◌⊎◌}
+-- The words of a message of numbers are words from which the numbers are read.
+use Rattle.std.proofs.Common.{◌≡◌, ℕ, ◌+◌, ◌-◌, ◌*◌, ◌^◌, ◌<◌, ◌≤◌, Bool, List, [], ◌∷◌, ◌++◌, length, Option, Some, None, Result, Ok, Err, refl, ap, sym, ◌∙◌, subst, arith, inl, inr, ◌⊎◌}
 use Rattle.std.specs.Prelude.{All}
 use Rattle.std.proofs.lemmas.Bool.{cases_lt}
 use Rattle.std.proofs.lemmas.List.Elements.{All-head, All-tail, All-cons, All-nil, same_from_all_zip}
@@ -18,10 +18,10 @@ use Rattle.constriction_coders.proofs.Messages.{came-back}
 use Rattle.constriction_coders.proofs.PlacesComingBack.{range-back}
 use Rattle.constriction_coders.proofs.Sealing.{sealed-tell}
 use Rattle.constriction_coders.proofs.Spanning.{lies-run, lies-unwidened, some-symbol, whole-reached}
-use Rattle.constriction_adaptive.specs.Bytes.{all_bits, AreReadFrom, IsBitRead, TakesWord}
+use Rattle.constriction_adaptive.specs.Numbers.{all_bits, AreReadFrom, IsBitRead, TakesWord}
 use Rattle.constriction_adaptive.specs.lemmas.Bit.{next-same, same-bit}
 use Rattle.constriction_adaptive.specs.Predicted.{predicted_entry, AllTile}
-use Rattle.constriction_adaptive.proofs.Bits.{all-bits-length, bytes-once}
+use Rattle.constriction_adaptive.proofs.Bits.{all-bits-length, numbers-once}
 use Rattle.constriction_adaptive.proofs.Telling.{holding}
 
 -- ---- a list of words tells itself
@@ -111,10 +111,12 @@ module _ {State : Type 0} (rows : State → List (Row Bool)) (next : State → B
   tiles-of (x ∷ xs) state old new d =
       All-cons Tiles (state, x) (placed next (next state x) xs) d.1.tile (tiles-of xs (next state x) d.0 new d.2)
 
-  module _ (first : State) (bytes words more : List ℕ) (small : All (λ b. b < 256) bytes)
-      (message : IsMessageFrom (predicted_entry rows beq) next 16 first (all_bits bytes) words) (fit : All (λ w. w < 2 ^ 32) more) where
-    -- from the words of bytes these bytes are read, if all rows tile
-    pub message-read : AllTile rows next 16 first (all_bits bytes) → AreReadFrom rows next first bytes (words ++ more)
+  module _ (width : ℕ) (first : State) (numbers words more : List ℕ) (small : All (λ n. n < 2 ^ width) numbers)
+      (message : IsMessageFrom (predicted_entry rows beq) next 16 first (all_bits width numbers) words)
+      (fit : All (λ w. w < 2 ^ 32) more) where
+    -- from the words of numbers these numbers are read, if all rows tile
+    pub message-read : AllTile rows next 16 first (all_bits width numbers)
+        → AreReadFrom width rows next first numbers (words ++ more)
     message-read tile =
         let lead = sealed-tell message.0 words more message.2 fit in
         let high = take-word (words ++ more) in
@@ -123,13 +125,13 @@ module _ {State : Type 0} (rows : State → List (Row Bool)) (next : State → B
         let begun : IsStart TakesWord (words ++ more) (interval (2 ^ 64 - 1) offset) low.1 =
         (high.0, low.0, high.1, high.2, low.2, refl) in
         let here = begins-whole TakesWord tells tells-law (words ++ more) (2 ^ 64 - 1) offset low.1 begun (words ++ more) refl in
-        let run = read-run (all_bits bytes) first whole message.0 (words ++ more) (holding (interval (2 ^ 64 - 1) offset) low.1)
-        lead.fit tile message.1 (λ some. lead.lies (leaves-whole (all_bits bytes) first message.0 message.1 some)) here in
+        let run = read-run (all_bits width numbers) first whole message.0 (words ++ more) (holding (interval (2 ^ 64 - 1) offset) low.1)
+        lead.fit tile message.1 (λ some. lead.lies (leaves-whole (all_bits width numbers) first message.0 message.1 some)) here in
         record { small = small; start = holding (interval (2 ^ 64 - 1) offset) low.1; begun = begun; end = run.0; led = run.1 }
 
-    -- as many bytes that are read from them are these bytes
-    pub message-back : (answers : List ℕ) → AreReadFrom rows next first answers (words ++ more) → length answers ≡ length bytes
-        → answers ≡ bytes
+    -- as many numbers that are read from them are these numbers
+    pub message-back : (answers : List ℕ) → AreReadFrom width rows next first answers (words ++ more) → length answers ≡ length numbers
+        → answers ≡ numbers
     message-back answers read long =
         let law : RangeMessageComesBack (placed next first) (entry_at (predicted_entry rows beq)) 16 (IsBitRead rows) tells
         (StandsForEqual (λ s t. t ≡ s) beq) =
@@ -141,9 +143,10 @@ module _ {State : Type 0} (rows : State → List (Row Bool)) (next : State → B
         (record { left = e.left; weight = e.weight; known = e.known; within = e.within; next = e.next }) lies here d.step) first in
         let here = begins-whole TakesWord tells tells-law (words ++ more) read.start.held.range read.start.held.offset read.start.source
         read.begun (words ++ more) refl in
-        let back = came-back (placed next first) _ _ _ _ _ law read.start (8 * length bytes) (all_bits answers) read.end read.led
-        (all_bits bytes) (words ++ more) whole message.0 whole-reached (all-bits-length bytes) message.1
-        (sealed-tell message.0 words more message.2 fit) here (omega (arith, all-bits-length answers, long)) in
-        let bits : all_bits answers ≡ all_bits bytes =
-        same_from_all_zip (StandsForEqual (λ s t. t ≡ s) beq) (all_bits bytes) (all_bits answers) back (λ a b e. same-bit a b e) in
-        bytes-once answers bytes read.small small long bits
+        let back = came-back (placed next first) _ _ _ _ _ law read.start (width * length numbers) (all_bits width answers) read.end
+        read.led (all_bits width numbers) (words ++ more) whole message.0 whole-reached (all-bits-length width numbers) message.1
+        (sealed-tell message.0 words more message.2 fit) here (omega (arith, all-bits-length width answers, ap (λ n. width * n) long)) in
+        let bits : all_bits width answers ≡ all_bits width numbers =
+        same_from_all_zip (StandsForEqual (λ s t. t ≡ s) beq) (all_bits width numbers) (all_bits width answers) back
+        (λ a b e. same-bit a b e) in
+        numbers-once width answers numbers read.small small long bits

@@ -10,8 +10,8 @@ use Rattle.constriction_coders.specs.Intervals.{Interval, interval, unit_of, par
 use Rattle.constriction_coders.specs.Intervals.{IsAboveAll, IsWidenedByRead, IsStart, Held}
 use Rattle.constriction_coders.specs.Places.{placed}
 use Rattle.constriction_coders.proofs.Decoding.{quantile-from, quantile-to}
-use Rattle.constriction_adaptive.specs.Bytes.{all_bits, AreReadFrom, IsBitRead, TakesWord}
-use Rattle.constriction_adaptive.proofs.Bits.{all-bits-length, bytes-once}
+use Rattle.constriction_adaptive.specs.Numbers.{all_bits, AreReadFrom, IsBitRead, TakesWord}
+use Rattle.constriction_adaptive.proofs.Bits.{all-bits-length, numbers-once}
 use Rattle.constriction_adaptive.proofs.Telling.{holding}
 
 takes-once : (words : List ℕ) (a b : Option ℕ) (t u : List ℕ) → TakesWord words (Ok a) t → TakesWord words (Ok b) u → (a ≡ b) × (t ≡ u)
@@ -80,22 +80,30 @@ module _ {State : Type 0} (rows : State → List (Row Bool)) (next : State → B
       let rest = turns-once xs ys (next state x) p.0 a b p.2 on (omega (arith, few)) in
       (rest.0, ap (λ (bs : List Bool). y ∷ bs) rest.1 ∙ ap (λ z. z ∷ (xs ++ rest.0)) (sym one.0), rest.2)
 
-  module _ (first : State) where
-    -- words and a number of bytes say which bytes are read
-    pub read-once : (a b words : List ℕ) → AreReadFrom rows next first a words → AreReadFrom rows next first b words
+  module _ (width : ℕ) (first : State) where
+    -- words and how many numbers there are say which numbers are read
+    pub read-once : (a b words : List ℕ) → AreReadFrom width rows next first a words → AreReadFrom width rows next first b words
         → length a ≡ length b → a ≡ b
     read-once a b words p q long =
         let begun = start-once words q.start p.start q.begun p.begun in
-        let other : InTurn (IsBitRead rows) (placed next first (all_bits b)) p.start q.end =
-        subst (λ (h : Held (List ℕ)). InTurn (IsBitRead rows) (placed next first (all_bits b)) h q.end) begun q.led in
-        let rest = turns-once (all_bits a) (all_bits b) first p.start p.end q.end p.led other
-        (omega (arith, all-bits-length a, all-bits-length b, long)) in
+        let many : width * length a ≡ width * length b = ap (λ n. width * n) long in
+        let other : InTurn (IsBitRead rows) (placed next first (all_bits width b)) p.start q.end =
+        subst (λ (h : Held (List ℕ)). InTurn (IsBitRead rows) (placed next first (all_bits width b)) h q.end) begun q.led in
+        let rest = turns-once (all_bits width a) (all_bits width b) first p.start p.end q.end p.led other
+        (omega (arith, all-bits-length width a, all-bits-length width b, many)) in
         let none : rest.0 ≡ [] =
         nil_from_length rest.0
-        (omega (arith, ap length rest.1, length-append (all_bits a) rest.0, all-bits-length a, all-bits-length b, long)) in
-        let bits : all_bits b ≡ all_bits a =
-        rest.1 ∙ ap (λ (zs : List Bool). all_bits a ++ zs) none ∙ append-nil (all_bits a) in
-        bytes-once a b p.small q.small long (sym bits)
+        (omega (
+          arith,
+          ap length rest.1,
+          length-append (all_bits width a) rest.0,
+          all-bits-length width a,
+          all-bits-length width b,
+          many,
+        )) in
+        let bits : all_bits width b ≡ all_bits width a =
+        rest.1 ∙ ap (λ (zs : List Bool). all_bits width a ++ zs) none ∙ append-nil (all_bits width a) in
+        numbers-once width a b p.small q.small long (sym bits)
 
     not-above : (zs : List Bool) (state : State) (at end : Held (List ℕ)) → InTurn (IsBitRead rows) (placed next state zs) at end → 0 < length zs
         → IsAboveAll 16 at.held → ⊥
@@ -107,13 +115,15 @@ module _ {State : Type 0} (rows : State → List (Row Bool)) (next : State → B
         omega (arith, above, d.1.step.holds.to, mul-le unit (row.left + row.weight) unit (2 ^ 16) (omega arith) lies.1)
 
     -- where more is read, the point is not above all parts
-    pub not-invalid : (xs : List Bool) (bytes words : List ℕ) (start at : Held (List ℕ)) → IsStart TakesWord words start.held start.source
-        → InTurn (IsBitRead rows) (placed next first xs) start at → AreReadFrom rows next first bytes words → length xs < 8 * length bytes
+    pub not-invalid : (xs : List Bool) (numbers words : List ℕ) (start at : Held (List ℕ)) → IsStart TakesWord words start.held start.source
+        → InTurn (IsBitRead rows) (placed next first xs) start at → AreReadFrom width rows next first numbers words
+        → length xs < width * length numbers
         → IsAboveAll 16 at.held → ⊥
-    not-invalid xs bytes words start at begun led read fewer above =
+    not-invalid xs numbers words start at begun led read fewer above =
         let same = start-once words read.start start read.begun begun in
-        let other : InTurn (IsBitRead rows) (placed next first (all_bits bytes)) start read.end =
-        subst (λ (h : Held (List ℕ)). InTurn (IsBitRead rows) (placed next first (all_bits bytes)) h read.end) same read.led in
-        let rest = turns-once xs (all_bits bytes) first start at read.end led other (omega (arith, all-bits-length bytes, fewer)) in
+        let other : InTurn (IsBitRead rows) (placed next first (all_bits width numbers)) start read.end =
+        subst (λ (h : Held (List ℕ)). InTurn (IsBitRead rows) (placed next first (all_bits width numbers)) h read.end) same read.led in
+        let rest = turns-once xs (all_bits width numbers) first start at read.end led other
+        (omega (arith, all-bits-length width numbers, fewer)) in
         not-above rest.0 (fold next first xs) at read.end rest.2
-        (omega (arith, ap length rest.1, length-append xs rest.0, all-bits-length bytes, fewer)) above
+        (omega (arith, ap length rest.1, length-append xs rest.0, all-bits-length width numbers, fewer)) above

@@ -47,6 +47,22 @@ module _ {State Symbol : Type 0} (next : State → Symbol → State) where
     coded-push xs x first old between mid last new p step learned =
         coded-append xs (x ∷ []) first old between mid last new p (record { led = (new, step, refl); learned = learned })
 
+    -- after some symbols the next one is not coded, and nothing changes
+    pub stopped : (xs : List Symbol) (x : Symbol) (after whole : List Symbol) (first : State) (old : C) (between : State) (mid : C)
+        (last : State) (new : C) {Fault : State × Symbol → C → Type 0} → whole ≡ xs ++ x ∷ after
+        → AreCoded next Step xs first old between mid → Fault (between, x) mid → last ≡ between → new ≡ mid
+        → AdaptiveEncodingStops next Step Fault whole first old last new
+    stopped xs x after whole first old between mid last new {Fault = Fault} split coded fault unlearned same =
+        subst (λ (s : State). AdaptiveEncodingStops next Step Fault whole first old s new) (sym unlearned)
+        (subst (λ (c : C). AdaptiveEncodingStops next Step Fault whole first old between c) (sym same) (record {
+          done = xs;
+          symbol = x;
+          after = after;
+          split = split;
+          coded = coded;
+          fault = fault;
+        }))
+
     module _ (xs : List Symbol) (i : ℕ) (x : Symbol) (less : i < length xs) (is : x ≡ get_or xs i x) (first : State) (old : C)
         (between : State) (mid : C) (coded : AreCoded next Step (take i xs) first old between mid) where
       -- the next one of some symbols
@@ -61,15 +77,8 @@ module _ {State Symbol : Type 0} (next : State → Symbol → State) where
       pub encoding-stops : (Fault : State × Symbol → C → Type 0) (last : State) (new : C) → Fault (between, x) mid → last ≡ between
           → new ≡ mid → AdaptiveEncodingStops next Step Fault xs first old last new
       encoding-stops Fault last new fault unlearned same =
-          subst (λ (s : State). AdaptiveEncodingStops next Step Fault xs first old s new) (sym unlearned)
-          (subst (λ (c : C). AdaptiveEncodingStops next Step Fault xs first old between c) (sym same) (record {
-            done = take i xs;
-            symbol = x;
-            after = drop (suc i) xs;
-            split = split-at-symbol xs i x less is;
-            coded = coded;
-            fault = fault;
-          }))
+          stopped (take i xs) x (drop (suc i) xs) xs first old between mid last new (split-at-symbol xs i x less is) coded fault unlearned
+          same
 
     -- a run that was cut short stops there
     pub decoding-stops : {Coder Fault E : Type 0} (held : Coder → C) (IsRefusal : Fault → Type 0)

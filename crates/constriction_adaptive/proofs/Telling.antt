@@ -6,7 +6,7 @@ use Rattle.constriction_model.specs.Rows.{Row}
 use Rattle.constriction_backends.specs.Source.{ReadsUpcoming}
 use Rattle.constriction_coders.specs.Intervals.{Interval, part_of}
 use Rattle.constriction_coders.specs.Intervals.{IsWidenedByRead, IsStart, Held}
-use Rattle.constriction_adaptive.specs.Bytes.{TakesWord}
+use Rattle.constriction_adaptive.specs.Numbers.{TakesWord}
 use Rattle.constriction_adaptive.specs.Predicted.{IsReadIn}
 
 abbrev pub holding : Interval → List ℕ → Held (List ℕ)

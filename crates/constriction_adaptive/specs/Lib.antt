@@ -1,6 +1,5 @@
 pub mod Bit
 pub mod ByContext
-pub mod Bytes
 pub mod Categorical
 pub mod Contexts
 pub mod Entries
@@ -8,6 +7,7 @@ pub mod KnownModels
 pub mod LastSymbols
 pub mod Mixer
 pub mod Mixing
+pub mod Numbers
 pub mod Past
 pub mod Predicted
 pub mod lemmas

@@ -1,52 +1,27 @@
-//! Bytes by a predictor of their bits, in a range coder.
+//! Bytes by a predictor of their bits, in a range coder: [`numbers`](crate::numbers) of 8 bits.
 
-ghost use Rattle.std.specs.Prelude.{◌≡◌, ◌≢◌, ◌++◌, ◌^◌, ◌<◌, ℕ, Bool, List, None, Err, All, IfOk, OnOk, IfErr, length, fold};
+ghost use Rattle.std.specs.Prelude.{◌≡◌, ◌≢◌, ◌++◌, ◌^◌, ◌<◌, ℕ, Bool, List, Err, All, IfOk, OnOk, IfErr, length, fold};
 ghost use Rattle.std.specs.Allocator.{alloc_error};
 ghost use Rattle.std.specs.Bool.{beq};
 ghost use Rattle.constriction_coders.specs.Places.{entry_at, IsMessageFrom};
 ghost use Rattle.constriction_coders.specs.RangeDecoder.{held_by};
 ghost use Rattle.constriction_coders.specs.Spans.{IsNarrowed};
-ghost use Rattle.constriction_adaptive.specs.Bytes.{all_bits, bits_of, AreReadFrom};
+ghost use Rattle.constriction_adaptive.specs.Numbers.{all_bits, bits_of, AreReadFrom};
 ghost use Rattle.constriction_adaptive.specs.Predicted.{predicted_entry, AllTile, AreCoded, AdaptiveDecodingStops, AdaptiveEncodingStops, IsEncodingFault, IsReadIn};
 
 use crate::bit::Bit;
-use crate::decoding::decode_next;
 use crate::error::EncoderFrontendError;
+use crate::numbers::{
+    decode_number, decode_numbers, decode_numbers_of, encode_number, encode_numbers,
+    numbers_come_back,
+};
 use crate::predictor::Predictor;
-use crate::queue::encode_adaptively;
-use constriction_backends::{Cursor, ReadWords};
+use constriction_backends::ReadWords;
 use constriction_coders::queue::{DecoderFrontendError, RangeDecoder, RangeEncoder};
 use constriction_coders::{Code, Decode};
 use constriction_model::DecoderModel;
 use constriction_words::{CoderError, Queue};
 use std::alloc::{AllocError, Global};
-
-/// The bits of a byte, the highest first.
-#[inline]
-fn bits_of_byte(byte: u8) -> [bool; 8]
-    ensures { result ≡ bits_of byte }
-{
-    [
-        byte / 128 % 2 == 1,
-        byte / 64 % 2 == 1,
-        byte / 32 % 2 == 1,
-        byte / 16 % 2 == 1,
-        byte / 8 % 2 == 1,
-        byte / 4 % 2 == 1,
-        byte / 2 % 2 == 1,
-        byte % 2 == 1,
-    ]
-}
-
-/// Both bits have an entry.
-#[inline]
-fn bits_have_entries<P>(predictor: &P)
-where
-    P: Predictor<16, Symbol = bool, Model = Bit>,
-    ensures { (bit : Bool) → predicted_entry P.rows beq (P.state predictor.now) bit ≢ None }
-{
-    let _model = predictor.model();
-}
 
 /// Encodes the bits of a byte, the highest first.
 ///
@@ -62,28 +37,22 @@ where
     P: Predictor<16, Symbol = bool, Model = Bit>,
     ensures ok { OnOk result
         (AreCoded P.next (λ s. IsNarrowed (entry_at (predicted_entry P.rows beq) s) 16)
-        (bits_of byte) (P.state predictor.old) encoder.old (P.state predictor.new) encoder.new) }
-    ensures tile { OnOk result (AllTile P.rows P.next 16 (P.state predictor.old) (bits_of byte)) }
+        (bits_of 8 byte) (P.state predictor.old) encoder.old (P.state predictor.new) encoder.new) }
+    ensures tile { OnOk result (AllTile P.rows P.next 16 (P.state predictor.old) (bits_of 8 byte)) }
     ensures err { IfErr result (λ error.
         AdaptiveEncodingStops P.next (λ s. IsNarrowed (entry_at (predicted_entry P.rows beq) s) 16)
-        (IsEncodingFault (entry_at (predicted_entry P.rows beq)) 16 error) (bits_of byte)
+        (IsEncodingFault (entry_at (predicted_entry P.rows beq)) 16 error) (bits_of 8 byte)
         (P.state predictor.old) encoder.old (P.state predictor.new) encoder.new) }
     ensures possible { result ≢ Err (CoderError.Frontend EncoderFrontendError.ImpossibleSymbol) }
 {
-    let bits = bits_of_byte(byte);
-    match encode_adaptively(predictor, &bits, encoder) {
-        Ok(()) => Ok(()),
-        Err(error) => {
-            bits_have_entries(predictor);
-            Err(error)
-        }
-    }
+    encode_number::<P, u8, 8>(predictor, byte, encoder)
 }
 
 /// Decodes the bits of a byte.
 ///
-/// It fails as [`decode_next`] does. The bits before the one that was not decoded stay decoded and
-/// learned.
+/// It fails as [`decode_next`](crate::decode_next) does. The bits before the one that was not
+/// decoded stay decoded and learned.
+#[inline]
 pub fn decode_byte<P, Source>(
     predictor: &mut P,
     decoder: &mut RangeDecoder<Source>,
@@ -94,7 +63,7 @@ where
     requires { Source.can_read decoder.old.words }
     ensures goes_on { Source.can_read decoder.new.words }
     ensures ok { IfOk result (λ byte.
-        AreCoded P.next (IsReadIn P.rows (λ s t. t ≡ s) beq 16 Source.read_gives) (bits_of byte)
+        AreCoded P.next (IsReadIn P.rows (λ s t. t ≡ s) beq 16 Source.read_gives) (bits_of 8 byte)
         (P.state predictor.old) (held_by decoder.old) (P.state predictor.new)
         (held_by decoder.new)) }
     ensures err { IfErr result (λ error.
@@ -105,15 +74,7 @@ where
         ⟦<Bit as DecoderModel<16>>⟧.may_refuse (P.rows state)) 8 error (P.state predictor.old)
         (held_by decoder.old) (P.state predictor.new) decoder.new) }
 {
-    let mut byte = 0u8;
-    for done in 0..8usize {
-        let bit = match decode_next(predictor, decoder) {
-            Ok(bit) => bit,
-            Err(error) => return Err(error),
-        };
-        byte = byte.wrapping_add(byte).wrapping_add(u8::from(bit));
-    }
-    Ok(byte)
+    decode_number::<P, u8, Source, 8>(predictor, decoder)
 }
 
 /// The words of these bytes, from the state of the predictor on, and from which they are read
@@ -128,22 +89,18 @@ pub fn encode_bytes<P>(
 where
     P: Predictor<16, Symbol = bool, Model = Bit>,
     ensures ok { IfOk result (λ words. IsMessageFrom (predicted_entry P.rows beq) P.next 16
-        (P.state predictor.old) (all_bits bytes.now) words.items) }
+        (P.state predictor.old) (all_bits 8 bytes.now) words.items) }
     ensures read { IfOk result (λ words.
-        AreReadFrom P.rows P.next (P.state predictor.old) bytes.now words.items) }
+        AreReadFrom 8 P.rows P.next (P.state predictor.old) bytes.now words.items) }
     ensures learned { OnOk result
-        (P.state predictor.new ≡ fold P.next (P.state predictor.old) (all_bits bytes.now)) }
+        (P.state predictor.new ≡ fold P.next (P.state predictor.old) (all_bits 8 bytes.now)) }
 {
-    let mut encoder = RangeEncoder::new(alloc);
-    for byte in bytes {
-        match encode_byte(predictor, *byte, &mut encoder) {
-            Ok(()) => {}
-            Err(CoderError::Frontend(EncoderFrontendError::ImpossibleSymbol)) => unreachable!(),
-            Err(CoderError::Frontend(EncoderFrontendError::OutOfMemory)) => return Err(AllocError),
-            Err(CoderError::Backend(error)) => return Err(error),
-        }
+    match encode_numbers::<P, u8, 8>(alloc, predictor, bytes) {
+        Ok(words) => Ok(words),
+        Err(CoderError::Frontend(EncoderFrontendError::ImpossibleSymbol)) => unreachable!(),
+        Err(CoderError::Frontend(EncoderFrontendError::OutOfMemory)) => Err(AllocError),
+        Err(CoderError::Backend(error)) => Err(error),
     }
-    encoder.into_compressed()
 }
 
 /// Decodes `count` bytes from a source, which may have other words after theirs.
@@ -161,41 +118,46 @@ where
     Source: ReadWords<u32, Queue> + Drop,
     requires { Source.can_read source }
     ensures ok { IfOk result (λ bytes. (words : List ℕ) → Source.tells_upcoming source words
-        → AreReadFrom P.rows P.next (P.state predictor.old) bytes.items words) }
+        → AreReadFrom 8 P.rows P.next (P.state predictor.old) bytes.items words) }
     ensures count { IfOk result (λ bytes. length bytes.items ≡ count) }
     ensures learned { IfOk result (λ bytes.
-        P.state predictor.new ≡ fold P.next (P.state predictor.old) (all_bits bytes.items)) }
+        P.state predictor.new ≡ fold P.next (P.state predictor.old) (all_bits 8 bytes.items)) }
     ensures valid { result ≡ Err (CoderError.Frontend DecoderFrontendError.InvalidData)
-        → (bytes words : List ℕ) → length bytes ≡ count → AreReadFrom P.rows P.next
+        → (bytes words : List ℕ) → length bytes ≡ count → AreReadFrom 8 P.rows P.next
         (P.state predictor.old) bytes words → ¬ (Source.tells_upcoming source words) }
     ensures failed { (error : _) → result ≡ Err (CoderError.Backend error)
         → (reached left : Source) × Source.read_gives reached (Err error) left }
 {
-    let mut decoder = match RangeDecoder::from_compressed(source) {
-        Ok(decoder) => decoder,
-        Err(error) => return Err(CoderError::Backend(error)),
-    };
-    let mut bytes = Vec::new(alloc);
-    for done in 0..count {
-        let byte = match decode_byte(predictor, &mut decoder) {
-            Ok(byte) => byte,
-            Err(error) => return Err(error),
-        };
-        match bytes.push(byte) {
-            Ok(()) => {}
-            Err(_) => return Err(CoderError::Frontend(DecoderFrontendError::OutOfMemory)),
-        }
-    }
-    Ok(bytes)
+    decode_numbers::<P, u8, Source, 8>(alloc, predictor, count, source)
 }
 
-/// Words and a number of bytes say which bytes are read.
-pub fn bytes_are_read_once<P>()
+/// Decodes `count` bytes from words that are only lent, which may have others after theirs.
+///
+/// Any words have bytes, except that some are refused as `InvalidData`. If the words begin with a
+/// message of as many bytes from the state of the predictor on, these come back. Memory is asked
+/// for as bytes come, so `count` may come from outside.
+pub fn decode_bytes_of<P>(
+    alloc: Global,
+    predictor: &mut P,
+    count: usize,
+    words: &[u32],
+) -> Result<Vec<u8>, DecoderFrontendError>
 where
     P: Predictor<16, Symbol = bool, Model = Bit>,
-    ensures { (first : P.State) (a b words : List ℕ) → AreReadFrom P.rows P.next first a words
-        → AreReadFrom P.rows P.next first b words → length a ≡ length b → a ≡ b }
-{}
+    ensures ok { IfOk result (λ bytes. (first : P.State) → P.state predictor.old ≡ first
+        → AreReadFrom 8 P.rows P.next first bytes.items words.now
+        × (P.state predictor.new ≡ fold P.next first (all_bits 8 bytes.items))) }
+    ensures count { IfOk result (λ bytes. length bytes.items ≡ count) }
+    ensures back { IfOk result (λ again. (first : P.State) (bytes message more : List ℕ)
+        → P.state predictor.old ≡ first → All (λ b. b < 256) bytes → length bytes ≡ count
+        → IsMessageFrom (predicted_entry P.rows beq) P.next 16 first (all_bits 8 bytes) message
+        → All (λ w. w < 2 ^ 32) more → words.now ≡ message ++ more → again.items ≡ bytes) }
+    ensures valid { result ≡ Err DecoderFrontendError.InvalidData
+        → (first : P.State) (bytes : List ℕ) → P.state predictor.old ≡ first
+        → length bytes ≡ count → ¬ (AreReadFrom 8 P.rows P.next first bytes words.now) }
+{
+    decode_numbers_of::<P, u8, 8>(alloc, predictor, count, words)
+}
 
 /// Encodes the bytes and decodes as many. If both predictors begin in one state, the bytes come
 /// back, whatever is predicted, and both end in one state.
@@ -212,65 +174,12 @@ where
     requires { P.state decoding.old ≡ P.state encoding.old }
     ensures back { IfOk result (λ again. again.items ≡ bytes.now) }
     ensures learned { OnOk result
-        (P.state encoding.new ≡ fold P.next (P.state encoding.old) (all_bits bytes.now)) }
+        (P.state encoding.new ≡ fold P.next (P.state encoding.old) (all_bits 8 bytes.now)) }
     ensures one_state { OnOk result (P.state decoding.new ≡ P.state encoding.new) }
 {
-    bytes_are_read_once::<P>();
-    let words = encode_bytes(alloc, encoding, bytes)?;
-    let source = Cursor::new_at_write_beginning(words);
-    match decode_bytes(alloc, decoding, bytes.len(), source) {
+    match numbers_come_back::<P, u8, 8>(alloc, encoding, decoding, bytes) {
         Ok(again) => Ok(again),
-        Err(CoderError::Frontend(DecoderFrontendError::OutOfMemory)) => Err(AllocError),
-        Err(CoderError::Frontend(DecoderFrontendError::InvalidData)) => unreachable!(),
-        Err(CoderError::Backend(never)) => match never {},
-    }
-}
-
-/// From the words of bytes as many bytes are read as were encoded, and these are the same, whatever
-/// words come after them.
-pub fn message_is_read<P>()
-where
-    P: Predictor<16, Symbol = bool, Model = Bit>,
-    ensures back { (first : P.State) (bytes answers words more : List ℕ) → All (λ b. b < 256) bytes
-        → IsMessageFrom (predicted_entry P.rows beq) P.next 16 first (all_bits bytes) words
-        → All (λ w. w < 2 ^ 32) more → AreReadFrom P.rows P.next first answers (words ++ more)
-        → length answers ≡ length bytes → answers ≡ bytes }
-    ensures whatever_follows { (first : P.State) (bytes words more : List ℕ)
-        → AreReadFrom P.rows P.next first bytes words
-        → IsMessageFrom (predicted_entry P.rows beq) P.next 16 first (all_bits bytes) words
-        → All (λ w. w < 2 ^ 32) more → AreReadFrom P.rows P.next first bytes (words ++ more) }
-{}
-
-/// Decodes `count` bytes from words that are only lent, which may have others after theirs.
-///
-/// Any words have bytes, except that some are refused as `InvalidData`. If the words begin with a
-/// message of as many bytes from the state of the predictor on, these come back. Memory is asked
-/// for as bytes come, so `count` may come from outside.
-pub fn decode_bytes_of<P>(
-    alloc: Global,
-    predictor: &mut P,
-    count: usize,
-    words: &[u32],
-) -> Result<Vec<u8>, DecoderFrontendError>
-where
-    P: Predictor<16, Symbol = bool, Model = Bit>,
-    ensures ok { IfOk result (λ bytes. (first : P.State) → P.state predictor.old ≡ first
-        → AreReadFrom P.rows P.next first bytes.items words.now
-        × (P.state predictor.new ≡ fold P.next first (all_bits bytes.items))) }
-    ensures count { IfOk result (λ bytes. length bytes.items ≡ count) }
-    ensures back { IfOk result (λ again. (first : P.State) (bytes message more : List ℕ)
-        → P.state predictor.old ≡ first → All (λ b. b < 256) bytes → length bytes ≡ count
-        → IsMessageFrom (predicted_entry P.rows beq) P.next 16 first (all_bits bytes) message
-        → All (λ w. w < 2 ^ 32) more → words.now ≡ message ++ more → again.items ≡ bytes) }
-    ensures valid { result ≡ Err DecoderFrontendError.InvalidData
-        → (first : P.State) (bytes : List ℕ) → P.state predictor.old ≡ first
-        → length bytes ≡ count → ¬ (AreReadFrom P.rows P.next first bytes words.now) }
-{
-    message_is_read::<P>();
-    let source = Cursor::new_at_write_beginning(words);
-    match decode_bytes(alloc, predictor, count, source) {
-        Ok(bytes) => Ok(bytes),
-        Err(CoderError::Frontend(error)) => Err(error),
-        Err(CoderError::Backend(never)) => match never {},
+        Err(EncoderFrontendError::ImpossibleSymbol) => unreachable!(),
+        Err(EncoderFrontendError::OutOfMemory) => Err(AllocError),
     }
 }

@@ -2,8 +2,8 @@
 //!
 //! A [`Predictor`] has a model of the next symbol, and learns each symbol that was coded. If an
 //! encoder and a decoder begin with predictors in one state, whatever is encoded comes back: as a
-//! message of a range coder ([`queue`]), from a stack ([`stack`]), or as bytes whose bits are
-//! predicted ([`bytes`]).
+//! message of a range coder ([`queue`]), from a stack ([`stack`]), or as numbers whose bits are
+//! predicted ([`numbers`]), such as [`bytes`].
 #![tactic(auto)]
 
 mod bit;
@@ -16,6 +16,7 @@ mod error;
 mod known_models;
 mod last_symbols;
 mod mixer;
+pub mod numbers;
 mod predictor;
 pub mod queue;
 pub mod stack;

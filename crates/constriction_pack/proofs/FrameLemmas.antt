@@ -8,7 +8,7 @@ use Rattle.std.specs.Io.KnownBytes.{Appends, Consumes, IsAtEnd}
 use Rattle.std.proofs.lemmas.List.{length-append, length-take-le, take_at, take-append-drop}
 use Rattle.constriction.specs.Acceptance.{IsAccepted}
 use Rattle.constriction.specs.Rows.{Row}
-use Rattle.constriction_adaptive.specs.Bytes.{AreReadFrom}
+use Rattle.constriction_adaptive.specs.Numbers.{AreReadFrom}
 use Rattle.constriction_adaptive.specs.Mixer.{mixer_after, mixer_rows}
 use Rattle.constriction_adaptive.proofs.ReadOnce.{read-once}
 use Rattle.constriction_coders.specs.Bytes.{bytes_of_words}
@@ -102,8 +102,8 @@ predicted_once rows next first bytes others content p q =
     let count = number_once (length bytes) (length others) _ _ e in
     let rest : bytes_of_words p.words ≡ bytes_of_words q.words = ap (drop 4) e in
     let words = bytes_once p.words q.words rest in
-    read-once rows next first bytes others p.words p.read
-    (subst (λ (ws : List ℕ). AreReadFrom rows next first others ws) (sym words) q.read) count
+    read-once rows next 8 first bytes others p.words p.read
+    (subst (λ (ws : List ℕ). AreReadFrom 8 rows next first others ws) (sym words) q.read) count
 
 -- blocks are short
 pub content_short : (kind : Kind) (bytes content : List ℕ) → IsContent kind bytes content

@@ -25,7 +25,7 @@ use Rattle.constriction.specs.Acceptance.{IsAccepted}
 use Rattle.constriction.specs.Rows.{Row, contiguous_rows, entry_of}
 use Rattle.constriction_coders.specs.Bytes.{bytes_of_words}
 use Rattle.constriction_coders.specs.StackMessages.{IsStackOf}
-use Rattle.constriction_adaptive.specs.Bytes.{AreReadFrom}
+use Rattle.constriction_adaptive.specs.Numbers.{AreReadFrom}
 use Rattle.constriction_adaptive.specs.Mixer.{MixerState, mixer_after, mixer_begun, mixer_rows}
 use Rattle.constriction_pack.specs.declared.kind.TheConstants.{FEW_CONTEXTS, FEW_FOLLOWERS, FEW_GROUPS, FEW_REACH}
 use Rattle.constriction_pack.specs.declared.kind.TheConstants.{MANY_CONTEXTS, MANY_FOLLOWERS, MANY_GROUPS, MANY_REACH}
@@ -84,7 +84,7 @@ pub record IsPredicted {State : Type 0} (rows : State → List (Row Bool)) (next
   pub some : 0 < length bytes
   pub short : length bytes ≤ 2 ^ 23
   pub words : List ℕ
-  pub read : AreReadFrom rows next first bytes words
+  pub read : AreReadFrom 8 rows next first bytes words
   pub laid_out : content ≡ bytes_of_words (length bytes ∷ []) ++ bytes_of_words words
 
 -- mixers that learned nothing: of two contexts, and of six

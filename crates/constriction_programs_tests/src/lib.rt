@@ -22,6 +22,8 @@ mod longest_input;
 #[cfg(test)]
 mod mixed;
 #[cfg(test)]
+mod numbers;
+#[cfg(test)]
 mod packed_files;
 #[cfg(test)]
 mod packing;

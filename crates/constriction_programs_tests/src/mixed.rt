@@ -4,16 +4,15 @@
 ghost use Rattle.std.specs.Prelude.{◌≡◌, ◌≢◌, ◌^◌, [], ◌∷◌, ℕ, List, Err, IfOk, OnOk, fold, length};
 ghost use Rattle.std.specs.Bool.{beq};
 ghost use Rattle.constriction_coders.specs.Places.{IsMessageFrom};
-ghost use Rattle.constriction_adaptive.specs.Bytes.{all_bits, AreReadFrom};
+ghost use Rattle.constriction_adaptive.specs.Numbers.{all_bits, AreReadFrom};
 ghost use Rattle.constriction_adaptive.specs.Contexts.{contexts_after};
 ghost use Rattle.constriction_adaptive.specs.Mixer.{mixer_after, mixer_begun, mixer_rows};
 ghost use Rattle.constriction_adaptive.specs.Predicted.{predicted_entry};
 
 use crate::checks::{holds, same};
 use constriction::backends::Cursor;
-use constriction_adaptive::bytes::{
-    bytes_are_read_once, bytes_come_back, decode_bytes, decode_bytes_of, encode_bytes,
-};
+use constriction_adaptive::bytes::{bytes_come_back, decode_bytes, decode_bytes_of, encode_bytes};
+use constriction_adaptive::numbers::numbers_are_read_once;
 use constriction_adaptive::{Mixer, OrderOne, Predictor};
 use constriction_coders::queue::DecoderFrontendError;
 use std::alloc::{AllocError, Global};
@@ -21,9 +20,9 @@ use std::alloc::{AllocError, Global};
 /// The words of bytes, from which these bytes are read.
 fn encoded_by_a_mixer(alloc: Global, bytes: &[u8]) -> Result<Vec<u32>, AllocError>
     ensures message { IfOk result (λ words. IsMessageFrom (predicted_entry mixer_rows beq)
-        mixer_after 16 (mixer_begun (1 ∷ 3 ∷ 0 ∷ []) 262144 4194304 6) (all_bits bytes.now)
+        mixer_after 16 (mixer_begun (1 ∷ 3 ∷ 0 ∷ []) 262144 4194304 6) (all_bits 8 bytes.now)
         words.items) }
-    ensures read { IfOk result (λ words. AreReadFrom mixer_rows mixer_after
+    ensures read { IfOk result (λ words. AreReadFrom 8 mixer_rows mixer_after
         (mixer_begun (1 ∷ 3 ∷ 0 ∷ []) 262144 4194304 6) bytes.now words.items) }
 {
     let mut mixer = Mixer::<3>::new(alloc, [1, 3, 0], 262_144, 4_194_304, 6)?;
@@ -36,11 +35,11 @@ fn decoded_by_a_mixer(
     count: usize,
     words: &[u32],
 ) -> Result<Vec<u8>, DecoderFrontendError>
-    ensures read { IfOk result (λ bytes. AreReadFrom mixer_rows mixer_after
+    ensures read { IfOk result (λ bytes. AreReadFrom 8 mixer_rows mixer_after
         (mixer_begun (1 ∷ 3 ∷ 0 ∷ []) 262144 4194304 6) bytes.items words.now) }
     ensures count { IfOk result (λ bytes. length bytes.items ≡ count) }
     ensures valid { result ≡ Err DecoderFrontendError.InvalidData → (bytes : List ℕ)
-        → length bytes ≡ count → ¬ (AreReadFrom mixer_rows mixer_after
+        → length bytes ≡ count → ¬ (AreReadFrom 8 mixer_rows mixer_after
         (mixer_begun (1 ∷ 3 ∷ 0 ∷ []) 262144 4194304 6) bytes words.now) }
 {
     let Ok(mut mixer) = Mixer::<3>::new(alloc, [1, 3, 0], 262_144, 4_194_304, 6) else {
@@ -54,7 +53,7 @@ fn by_a_mixer(alloc: Global, bytes: &[u8]) -> Result<Vec<u8>, DecoderFrontendErr
     ensures back { IfOk result (λ answers. answers.items ≡ bytes.now) }
     ensures valid { result ≢ Err DecoderFrontendError.InvalidData }
 {
-    bytes_are_read_once::<Mixer<3>>();
+    numbers_are_read_once::<Mixer<3>>();
     let Ok(words) = encoded_by_a_mixer(alloc, bytes) else {
         return Err(DecoderFrontendError::OutOfMemory);
     };
@@ -74,7 +73,7 @@ fn by_the_byte_before(
     ensures back { IfOk result (λ again. again.items ≡ bytes.now) }
     ensures learned { OnOk result
         (⟦<OrderOne as Predictor<16>>⟧.state encoding.new ≡ fold (contexts_after 65536 (256 ^ 1))
-        (⟦<OrderOne as Predictor<16>>⟧.state encoding.old) (all_bits bytes.now)) }
+        (⟦<OrderOne as Predictor<16>>⟧.state encoding.old) (all_bits 8 bytes.now)) }
     ensures one_state { OnOk result (⟦<OrderOne as Predictor<16>>⟧.state decoding.new
         ≡ ⟦<OrderOne as Predictor<16>>⟧.state encoding.new) }
 {

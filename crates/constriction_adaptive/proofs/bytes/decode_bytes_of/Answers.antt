@@ -1,23 +1,22 @@
-use Rattle.std.proofs.Common.{◌≡◌, ℕ, List, Err, ap, subst, sym, ◌∙◌}
-use Rattle.constriction_words.specs.declared.CoderError.TheVariants.{Frontend}
-use Rattle.constriction_coders.specs.declared.queue.range_decoder.DecoderFrontendError.TheVariants.{InvalidData}
-use Rattle.constriction_adaptive.specs.Bytes.{AreReadFrom}
+use Rattle.std.proofs.Common.{ℕ, List, fold, ap, subst, sym, ◌∙◌}
+use Rattle.std.proofs.lemmas.List.{map-id}
+use Rattle.std.proofs.lemmas.Result.{IfOk-weaker}
+use Rattle.constriction_adaptive.specs.Numbers.{all_bits, AreReadFrom}
 use Rattle.constriction_adaptive.proofs.bytes.decode_bytes_of.Goals as goal
 
-pub returns-in-Ok-clause-ok : goal.returns-in-Ok-clause-ok
-returns-in-Ok-clause-ok g c = λ first begins. (
-  (rw begins at c.in-Ok.ensures.ok) c.args.words.now (sym c.new_at_write_beginning-source.ensures.ahead),
-  rw begins at c.in-Ok.ensures.learned,
-)
+pub returns-clause-ok : goal.returns-clause-ok
+returns-clause-ok g c =
+    let rows = g.P.Predictor.rows in
+    let next = g.P.Predictor.next in
+    IfOk-weaker c.decode_numbers_of.result _ _
+    (λ bytes read first begins. (
+      subst (λ (ns : List ℕ). AreReadFrom 8 rows next first ns c.args.words.now) (map-id bytes.items) (read first begins).0,
+      (read first begins).1 ∙ ap (λ (ns : List ℕ). fold next first (all_bits 8 ns)) (map-id bytes.items),
+    ))
+    c.decode_numbers_of.ensures.ok
 
-pub returns-in-Ok-clause-back : goal.returns-in-Ok-clause-back
-returns-in-Ok-clause-back g c = λ first bytes message more begins small long sent fit is.
-    let read = (returns-in-Ok-clause-ok g c first begins).0 in
-    let all = subst (λ (ws : List ℕ). AreReadFrom g.P.Predictor.rows g.P.Predictor.next first c.in-Ok.bytes.items ws) is read in
-    c.message_is_read.ensures.back first bytes c.in-Ok.bytes.items message more small sent fit all (c.in-Ok.ensures.count ∙ sym long)
-
-pub returns-in-Err-Frontend-clause-valid : goal.returns-in-Err-Frontend-clause-valid
-returns-in-Err-Frontend-clause-valid g c = λ is first bytes begins long read.
-    let same : c.in-Err-Frontend.error ≡ InvalidData = cc in
-    (rw begins at c.in-Err-Frontend.ensures.valid) (ap Err (c.in-Err-Frontend.field-0-is ∙ ap Frontend same)) bytes c.args.words.now long read
-    (sym c.new_at_write_beginning-source.ensures.ahead)
+pub returns-clause-back : goal.returns-clause-back
+returns-clause-back g c =
+    IfOk-weaker c.decode_numbers_of.result _ _
+    (λ again back first bytes message more begins small long sent fit is.
+    sym (map-id again.items) ∙ back first bytes message more begins small long sent fit is) c.decode_numbers_of.ensures.back

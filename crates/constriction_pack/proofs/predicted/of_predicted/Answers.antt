@@ -2,7 +2,7 @@ use Rattle.std.proofs.Common.{◌≡◌, ◌%◌, ◌-◌, ◌∷◌, ◌++◌, 
 use Rattle.std.proofs.Common.{take, ap, sym, ◌∙◌, arith, subst}
 use Rattle.std.proofs.lemmas.Grind.{common_steps}
 use Rattle.std.proofs.lemmas.List.{take_all}
-use Rattle.constriction_adaptive.specs.Bytes.{AreReadFrom}
+use Rattle.constriction_adaptive.specs.Numbers.{AreReadFrom}
 use Rattle.constriction_coders.specs.Bytes.{bytes_of_words}
 use Rattle.constriction_coders.specs.lemmas.Bytes.{bytes_once, length-bytes_of_words}
 use Rattle.constriction_pack.proofs.ListLemmas.{number_once}
@@ -52,9 +52,9 @@ returns-in-Err-Frontend-InvalidData-clause-accepted g c = λ bytes p.
     sym (number_once c.little_endian-count.result (length bytes) _ _ e) in
     let same : words ≡ p.words = bytes_once words p.words
     (c.in-Ok.ensures.ok ∙ whole content ∙ ap (drop 4) e) in
-    let read : AreReadFrom g.P.Predictor.rows g.P.Predictor.next
+    let read : AreReadFrom 8 g.P.Predictor.rows g.P.Predictor.next
     (g.P.Predictor.state c.args.predictor.now) bytes words =
-    subst (λ (ws : List ℕ). AreReadFrom g.P.Predictor.rows g.P.Predictor.next
+    subst (λ (ws : List ℕ). AreReadFrom 8 g.P.Predictor.rows g.P.Predictor.next
     (g.P.Predictor.state c.args.predictor.now) bytes ws)
     (sym same) p.read in
     absurd (c.in-Err-Frontend-InvalidData.ensures.valid (cc) bytes words count read known)

@@ -1,0 +1,87 @@
+//! What callers who code numbers by their bits learn from contracts alone.
+
+ghost use Rattle.std.specs.Prelude.{◌≡◌, IfOk};
+
+use crate::checks::{holds, same};
+use constriction::CoderError;
+use constriction::backends::Cursor;
+use constriction_adaptive::numbers::{
+    decode_number, decode_numbers, decode_numbers_of, encode_number, encode_numbers,
+    numbers_come_back,
+};
+use constriction_adaptive::{EncoderFrontendError, HashedContexts, OrderOne};
+use constriction_coders::queue::{RangeDecoder, RangeEncoder};
+use std::alloc::Global;
+use std::process::Abort;
+
+/// Encodes samples of 12 bits and decodes as many.
+fn samples_back(alloc: Global, samples: &[u16]) -> Result<Vec<u16>, EncoderFrontendError>
+    ensures { IfOk result (λ again. again.items ≡ samples.now) }
+{
+    let (Ok(mut encoding), Ok(mut decoding)) = (
+        HashedContexts::<3>::new(alloc),
+        HashedContexts::<3>::new(alloc),
+    ) else {
+        return Err(EncoderFrontendError::OutOfMemory);
+    };
+    numbers_come_back::<_, u16, 12>(alloc, &mut encoding, &mut decoding, samples)
+}
+
+#[test]
+fn samples_come_back_by_their_bits(rt: HostRuntime) {
+    let alloc = rt.alloc();
+    let samples = [0, 4095, 17, 2048, 4094, 1];
+    match samples_back(alloc, &samples) {
+        Ok(again) => holds(&rt, &again, &samples),
+        Err(_) => panic!(rt; "nothing came back"),
+    }
+    let refused = samples_back(alloc, &[5, 4096]);
+    same(
+        &rt,
+        refused.is_err_and(|error| error == EncoderFrontendError::ImpossibleSymbol),
+        true,
+    );
+}
+
+/// What is decoded of the words of numbers of 32 bits: from a source, and where they are lent.
+fn wide_numbers_back(alloc: Global, numbers: &[u32]) -> Option<(Vec<u32>, Vec<u32>)> {
+    let mut predictor = OrderOne::new(alloc).ok()?;
+    let mut words = encode_numbers::<_, u32, 32>(alloc, &mut predictor, numbers).ok()?;
+    words.push(7).ok()?;
+    let mut predictor = OrderOne::new(alloc).ok()?;
+    let lent = decode_numbers_of::<_, u32, 32>(alloc, &mut predictor, numbers.len(), &words).ok()?;
+    let mut predictor = OrderOne::new(alloc).ok()?;
+    let source = Cursor::new_at_write_beginning(words);
+    let read = decode_numbers::<_, u32, _, 32>(alloc, &mut predictor, numbers.len(), source).ok()?;
+    Some((lent, read))
+}
+
+#[test]
+fn numbers_of_32_bits_come_back_from_lent_words_and_from_a_source(rt: HostRuntime) {
+    let numbers = [0, u32::MAX, 1 << 31, 77];
+    match wide_numbers_back(rt.alloc(), &numbers) {
+        Some((lent, read)) => {
+            holds(&rt, &lent, &numbers);
+            holds(&rt, &read, &numbers);
+        }
+        None => panic!(rt; "nothing came back"),
+    }
+}
+
+/// A number of 5 bits, encoded and decoded alone.
+fn one_back(alloc: Global, number: u8) -> Option<u8> {
+    let mut predictor = OrderOne::new(alloc).ok()?;
+    let mut encoder = RangeEncoder::new(alloc);
+    encode_number::<_, u8, 5>(&mut predictor, number, &mut encoder).ok()?;
+    let source = Cursor::new_at_write_beginning(encoder.into_compressed().ok()?);
+    let mut predictor = OrderOne::new(alloc).ok()?;
+    let mut decoder = RangeDecoder::from_compressed(source).ok()?;
+    decode_number::<_, u8, _, 5>(&mut predictor, &mut decoder).ok()
+}
+
+#[test]
+fn a_number_comes_back_alone_and_one_of_more_bits_is_refused(rt: HostRuntime) {
+    same(&rt, one_back(rt.alloc(), 21), Some(21));
+    same(&rt, one_back(rt.alloc(), 31), Some(31));
+    same(&rt, one_back(rt.alloc(), 32), None);
+}
