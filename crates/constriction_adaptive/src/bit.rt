@@ -12,7 +12,7 @@ use constriction_words::BitArray;
 use std::alloc::AllocError;
 
 /// A model of one bit, at 16 bits of precision. It takes no memory.
-#[derive(Debug, Drop)]
+#[derive(Clone, Copy, Debug)]
 pub struct Bit {
     zero: u16,
     ghost some: { 0 < zero },

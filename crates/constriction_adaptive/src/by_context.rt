@@ -5,9 +5,9 @@ ghost use Rattle.constriction_model.specs.Coding.{StandsForEqual};
 ghost use Rattle.constriction_adaptive.specs.ByContext.{ByContexts, learned_in, rows_in, state_of};
 ghost use Rattle.constriction_adaptive.specs.lemmas.ByContext.{learned-same};
 
-use crate::predictor::Predictor;
+use crate::predictor::{Predictor, Snapshot};
 use constriction_model::{DecoderModel, EncoderModel};
-use std::alloc::AllocError;
+use std::alloc::{AllocError, Global};
 
 /// Says from the symbols that came in which context the next symbol is.
 ///
@@ -119,4 +119,21 @@ where
 
     ghost next_law = { learned-same P.next C.number C.next
         (StandsForEqual P.Model.stands_for P.Model.symbol_eq) P.next_law C.next_law };
+}
+
+impl<P, C, const PRECISION: usize> Snapshot<PRECISION> for ByContext<P, C, PRECISION>
+where
+    P: Snapshot<PRECISION> + Drop,
+    C: Context<P::Model, PRECISION> + Copy,
+{
+    fn snapshot(&self, alloc: Global) -> Result<Self, AllocError> {
+        let mut predictors = Vec::with_capacity(alloc, self.predictors.len())?;
+        for predictor in &self.predictors {
+            predictors.push_reserved(predictor.snapshot(alloc)?);
+        }
+        Ok(ByContext {
+            predictors,
+            context: self.context,
+        })
+    }
 }

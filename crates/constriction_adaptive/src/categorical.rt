@@ -9,7 +9,7 @@ ghost use Rattle.constriction_stored_rows.specs.lemmas.StoredRows.{stored-within
 ghost use Rattle.constriction_adaptive.specs.Categorical.{even_lefts, even_many, lefts_after};
 ghost use Rattle.constriction_adaptive.specs.lemmas.Categorical.{after-same};
 
-use crate::predictor::Predictor;
+use crate::predictor::{Predictor, Snapshot};
 use constriction_model::{DecoderModel, EncoderModel, EntropyModel, ModelError, Weight};
 use constriction_stored_rows::{contiguous_entry_of, contiguous_row_of_quantile};
 use std::alloc::{AllocError, Global};
@@ -218,4 +218,12 @@ impl<const RATE: u32, const PRECISION: usize> Predictor<PRECISION>
     }
 
     ghost next_law = { after-same (lefts_after PRECISION RATE) };
+}
+
+impl<const RATE: u32, const PRECISION: usize> Snapshot<PRECISION>
+    for AdaptiveCategorical<RATE, PRECISION> {
+    fn snapshot(&self, alloc: Global) -> Result<Self, AllocError> {
+        let cdf = Vec::from_slice(alloc, &self.cdf)?;
+        Ok(AdaptiveCategorical { cdf })
+    }
 }

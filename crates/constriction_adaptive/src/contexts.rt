@@ -6,7 +6,7 @@ ghost use Rattle.constriction_adaptive.specs.lemmas.Bit.{next-same};
 ghost use Rattle.constriction_adaptive.specs.Contexts.{Contexts, contexts_after, even_weights, history_after, moved, node_after, rows_in, slot_of, untouched};
 
 use crate::bit::Bit;
-use crate::predictor::Predictor;
+use crate::predictor::{Predictor, Snapshot};
 use constriction_model::EntropyModel;
 use std::alloc::{AllocError, Global};
 
@@ -194,4 +194,16 @@ impl<const SLOTS: usize, const ORDER: usize> Predictor<16> for ByteContexts<SLOT
     }
 
     ghost next_law = { next-same (contexts_after SLOTS (256 ^ ORDER)) };
+}
+
+impl<const SLOTS: usize, const ORDER: usize> Snapshot<16> for ByteContexts<SLOTS, ORDER> {
+    fn snapshot(&self, alloc: Global) -> Result<Self, AllocError> {
+        let weights = Vec::from_slice(alloc, &self.weights)?;
+        Ok(ByteContexts {
+            weights,
+            history: self.history,
+            node: self.node,
+            current: self.current,
+        })
+    }
 }

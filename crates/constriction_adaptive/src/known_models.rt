@@ -4,10 +4,10 @@ ghost use Rattle.std.specs.Prelude.{◌<◌, List, length, map, refl};
 ghost use Rattle.constriction_model.specs.Rows.{Row};
 ghost use Rattle.constriction_adaptive.specs.KnownModels.{first_rows, after_first};
 
-use crate::predictor::Predictor;
+use crate::predictor::{Predictor, Snapshot};
 use constriction_coders::ModelWord;
 use constriction_model::{DecoderModel, EncoderModel};
-use std::alloc::AllocError;
+use std::alloc::{AllocError, Global};
 
 /// Predicts each symbol by the model at its place in a list, and those after the list by its last
 /// model.
@@ -54,4 +54,16 @@ where
     }
 
     ghost next_law = { λ _ _ _ _. refl };
+}
+
+impl<'m, M, const PRECISION: usize> Snapshot<PRECISION> for KnownModels<'m, M>
+where
+    M: EncoderModel<PRECISION, Probability: ModelWord> + DecoderModel<PRECISION>,
+{
+    /// It takes no memory.
+    fn snapshot(&self, _alloc: Global) -> Result<Self, AllocError> {
+        Ok(KnownModels {
+            models: self.models,
+        })
+    }
 }

@@ -26,7 +26,7 @@ impl<const RATE: u32, const PRECISION: usize> NumberModel<PRECISION>
 
 /// The context of the last symbols, which are numbers below a bound. Each greater one counts as the
 /// greatest below it.
-#[derive(Drop)]
+#[derive(Clone, Copy)]
 pub struct LastSymbols {
     symbols: usize,
     older: usize,
@@ -41,6 +41,8 @@ impl Model for LastSymbols {
     ghost view = { λ c. recent c.symbols c.older c.number };
 
     ghost invariant = { λ c. IsRecent (recent c.symbols c.older c.number) };
+
+    ghost inverse = { λ d. record { symbols = d.symbols; older = d.older; number = d.number } };
 }
 
 impl LastSymbols {

@@ -30,4 +30,4 @@ pub use self::error::EncoderFrontendError;
 pub use self::known_models::KnownModels;
 pub use self::last_symbols::{LastSymbols, NumberModel};
 pub use self::mixer::Mixer;
-pub use self::predictor::Predictor;
+pub use self::predictor::{Predictor, Snapshot};

@@ -17,7 +17,7 @@ use crate::contexts::even;
 use crate::mixer::inputs::{adjust, ask, find, learn, mix};
 use crate::mixer::past::Past;
 use crate::mixer::tables::Tables;
-use crate::predictor::Predictor;
+use crate::predictor::{Predictor, Snapshot};
 use constriction_model::EntropyModel;
 use std::alloc::{AllocError, Global};
 
@@ -231,4 +231,25 @@ impl<const N: usize> Predictor<16> for Mixer<N> {
     }
 
     ghost next_law = { next-same mixer_after };
+}
+
+impl<const N: usize> Snapshot<16> for Mixer<N> {
+    fn snapshot(&self, alloc: Global) -> Result<Self, AllocError> {
+        let slots = Vec::from_slice(alloc, &self.slots)?;
+        let weights = Vec::from_slice(alloc, &self.weights)?;
+        let past = self.past.copied(alloc)?;
+        let tables = self.tables.copied(alloc)?;
+        Ok(Mixer {
+            contexts: self.contexts,
+            groups: self.groups,
+            slots,
+            weights,
+            past,
+            tables,
+            places: self.places,
+            strengths: self.strengths,
+            weight: self.weight,
+            current: self.current,
+        })
+    }
 }

@@ -1,12 +1,12 @@
 //! What predicts the next symbol.
 
-ghost use Rattle.std.specs.Prelude.{◌≡◌, List, OnOk};
+ghost use Rattle.std.specs.Prelude.{◌≡◌, IfOk, List, OnOk};
 ghost use Rattle.constriction_model.specs.Coding.{StandsForEqual};
 ghost use Rattle.constriction_model.specs.Rows.{Row};
 
 use constriction_coders::ModelWord;
 use constriction_model::{DecoderModel, EncoderModel, EntropyModel};
-use std::alloc::AllocError;
+use std::alloc::{AllocError, Global};
 
 /// Predicts the next symbol by a model, and learns each symbol that came.
 ///
@@ -52,4 +52,11 @@ pub trait Predictor<const PRECISION: usize> {
     ghost next_law: { (s : State) (symbol answer : Self.Symbol)
         → StandsForEqual Self.Model.stands_for Self.Model.symbol_eq symbol answer
         → next s answer ≡ next s symbol };
+}
+
+/// A predictor that can be copied, so that a caller can go back to what was known.
+pub trait Snapshot<const PRECISION: usize>: Predictor<PRECISION> {
+    /// A copy in the same state. It fails only if memory is refused.
+    fn snapshot(&self, alloc: Global) -> Result<Self, AllocError>
+        ensures { IfOk result (λ copy. Self.state copy ≡ Self.state self.now) };
 }

@@ -1,15 +1,19 @@
-//! What callers who code numbers by their bits learn from contracts alone.
+//! What callers who code numbers by their bits, or keep a snapshot of a predictor, learn from
+//! contracts alone.
 
 ghost use Rattle.std.specs.Prelude.{◌≡◌, IfOk};
 
 use crate::checks::{holds, same};
-use constriction::CoderError;
 use constriction::backends::Cursor;
 use constriction_adaptive::numbers::{
     decode_number, decode_numbers, decode_numbers_of, encode_number, encode_numbers,
     numbers_come_back,
 };
-use constriction_adaptive::{EncoderFrontendError, HashedContexts, OrderOne};
+use constriction_adaptive::queue::encode_message;
+use constriction_adaptive::{
+    AdaptiveCategorical, Bit, ByContext, EncoderFrontendError, HashedContexts, KnownModels,
+    LastSymbols, Mixer, OrderOne, Predictor, Snapshot,
+};
 use constriction_coders::queue::{RangeDecoder, RangeEncoder};
 use std::alloc::Global;
 use std::process::Abort;
@@ -84,4 +88,71 @@ fn a_number_comes_back_alone_and_one_of_more_bits_is_refused(rt: HostRuntime) {
     same(&rt, one_back(rt.alloc(), 21), Some(21));
     same(&rt, one_back(rt.alloc(), 31), Some(31));
     same(&rt, one_back(rt.alloc(), 32), None);
+}
+
+/// The words of symbols by a predictor, and again by a snapshot that was taken before.
+fn twice<P, const PRECISION: usize>(
+    alloc: Global,
+    mut predictor: P,
+    symbols: &[P::Symbol],
+) -> Option<(Vec<u32>, Vec<u32>)>
+where
+    P: Snapshot<PRECISION> + Drop,
+{
+    let mut before = predictor.snapshot(alloc).ok()?;
+    let words = encode_message(alloc, &mut predictor, symbols).ok()?;
+    let again = encode_message(alloc, &mut before, symbols).ok()?;
+    Some((words, again))
+}
+
+const BITS: [bool; 12] = [
+    true, false, false, true, true, true, false, true, true, false, true, true,
+];
+
+fn bits_twice(alloc: Global) -> Option<[(Vec<u32>, Vec<u32>); 3]> {
+    let contexts = HashedContexts::<2>::new(alloc).ok()?;
+    let mixer = Mixer::<2>::new(alloc, [1, 0], 64, 16, 2).ok()?;
+    Some([
+        twice(alloc, OrderOne::new(alloc).ok()?, &BITS)?,
+        twice(alloc, contexts, &BITS)?,
+        twice(alloc, mixer, &BITS)?,
+    ])
+}
+
+fn numbers_twice(alloc: Global) -> Option<[(Vec<u32>, Vec<u32>); 2]> {
+    let context = LastSymbols::new(4, 1);
+    let predictors = AdaptiveCategorical::<5, 16>::new_many(alloc, 4, context.contexts()).ok()?;
+    let numbers = [3, 3, 3, 0, 3, 3];
+    Some([
+        twice(
+            alloc,
+            AdaptiveCategorical::<5, 16>::new(alloc, 4).ok()?,
+            &numbers,
+        )?,
+        twice(alloc, ByContext::new(predictors, context), &numbers)?,
+    ])
+}
+
+fn known_twice(alloc: Global) -> Option<(Vec<u32>, Vec<u32>)> {
+    let models = [Bit::new(100), Bit::new(60_000)];
+    twice(alloc, KnownModels { models: &models }, &BITS)
+}
+
+#[test]
+fn a_snapshot_codes_the_same_again(rt: HostRuntime) {
+    let alloc = rt.alloc();
+    let (Some(bits), Some(numbers), Some(known)) = (
+        bits_twice(alloc),
+        numbers_twice(alloc),
+        known_twice(alloc),
+    ) else {
+        panic!(rt; "memory was refused");
+    };
+    for (words, again) in bits {
+        holds(&rt, &words, &again);
+    }
+    for (words, again) in numbers {
+        holds(&rt, &words, &again);
+    }
+    holds(&rt, &known.0, &known.1);
 }

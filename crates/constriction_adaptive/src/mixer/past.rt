@@ -96,6 +96,22 @@ impl Past {
         })
     }
 
+    /// The same past.
+    pub(crate) fn copied(&self, alloc: Global) -> Result<Self, AllocError>
+        ensures { IfOk result (λ past. past ≡ self.now) }
+    {
+        let followers = Vec::from_slice(alloc, &self.followers)?;
+        Ok(Past {
+            followers,
+            reach: self.reach,
+            history: self.history,
+            half: self.half,
+            path: self.path,
+            told: self.told,
+            at: self.at,
+        })
+    }
+
     /// What contexts see.
     #[inline]
     pub(crate) fn seen(&self) -> (u64, u32, u32)

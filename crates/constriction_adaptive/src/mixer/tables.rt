@@ -53,6 +53,14 @@ impl Tables {
         })
     }
 
+    /// The same tables.
+    pub(crate) fn copied(&self, alloc: Global) -> Result<Self, AllocError> {
+        Ok(Tables {
+            strengths: Vec::from_slice(alloc, &self.strengths)?,
+            squashes: Vec::from_slice(alloc, &self.squashes)?,
+        })
+    }
+
     /// How strongly a slot speaks for 0.
     #[inline]
     pub(crate) fn strength(&self, slot: u16) -> u16
