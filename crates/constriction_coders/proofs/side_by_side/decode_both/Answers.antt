@@ -35,37 +35,59 @@ loop-done-preserved g c =
       second_led = second.2;
     }
 
-pub returns-in-Err-clause-err : goal.returns-in-Err-clause-err
-returns-in-Err-clause-err g c =
-    let so = c.loop-done.invariant in (
-      filling-stops g.A.Code.held _ c.args.first.now c.loop-done.first c.loop-done.done _ c.loop-done.first_coder so.first_long
-          so.first_others so.first_led _ _ _ (omega (arith, c.loop-done-test.true, c.requires.first_places)) c.in-Err.ensures.step,
-      filled-so-far g.B.Code.held _ c.args.second.now c.loop-done.second c.loop-done.done _ c.loop-done.second_coder so.second_long
-          so.second_others so.second_led (omega (arith, c.loop-done-test.true, c.requires.second_places)),
-    )
+pub returns-in-Err : goal.returns-in-Err
+returns-in-Err g c =
+    let so = c.loop-done.invariant in
+    record {
+      first_goes_on = c.decode_symbol.ensures.goes_on;
+      second_goes_on = so.second_goes_on;
+      first_length = so.first_long;
+      second_length = so.second_long;
+      first_ok = tt;
+      second_ok = tt;
+      err = (
+        filling-stops g.A.Code.held _ c.args.first.now c.loop-done.first c.loop-done.done _ c.loop-done.first_coder so.first_long
+            so.first_others so.first_led _ _ _ (omega (arith, c.loop-done-test.true, c.requires.first_places)) c.in-Err.ensures.step,
+        filled-so-far g.B.Code.held _ c.args.second.now c.loop-done.second c.loop-done.done _ c.loop-done.second_coder so.second_long
+            so.second_others so.second_led (omega (arith, c.loop-done-test.true, c.requires.second_places)),
+      );
+    }
 
-pub returns-in-Err-decode_symbol-clause-err : goal.returns-in-Err-decode_symbol-clause-err
-returns-in-Err-decode_symbol-clause-err g c =
+pub returns-in-Err-decode_symbol : goal.returns-in-Err-decode_symbol
+returns-in-Err-decode_symbol g c =
     let so = c.loop-done.invariant in
     let first =
     fill-more _ c.args.first.now c.loop-done.first c.loop-done.done _ _ so.first_long so.first_others so.first_led c.in-Ok.symbol _
-    (omega (arith, c.loop-done-test.true, so.first_long, c.requires.first_places)) c.in-Ok.ensures.ok in (
-      filling-stops g.B.Code.held _ c.args.second.now c.loop-done.second c.loop-done.done _ c.loop-done.second_coder so.second_long
-          so.second_others so.second_led _ _ _ (omega (arith, c.loop-done-test.true, c.requires.second_places))
-          c.in-Err-decode_symbol.ensures.step,
-      filled-so-far g.A.Code.held _ c.args.first.now _ _ _ c.decode_symbol.new.self first.0 first.1 first.2
-          (omega (arith, c.loop-done-test.true, c.requires.first_places)),
-    )
+    (omega (arith, c.loop-done-test.true, so.first_long, c.requires.first_places)) c.in-Ok.ensures.ok in
+    record {
+      first_goes_on = c.decode_symbol.ensures.goes_on;
+      second_goes_on = c.decode_symbol-in-loop-done.ensures.goes_on;
+      first_length = first.0;
+      second_length = so.second_long;
+      first_ok = tt;
+      second_ok = tt;
+      err = (
+        filling-stops g.B.Code.held _ c.args.second.now c.loop-done.second c.loop-done.done _ c.loop-done.second_coder so.second_long
+            so.second_others so.second_led _ _ _ (omega (arith, c.loop-done-test.true, c.requires.second_places))
+            c.in-Err-decode_symbol.ensures.step,
+        filled-so-far g.A.Code.held _ c.args.first.now _ _ _ c.decode_symbol.new.self first.0 first.1 first.2
+            (omega (arith, c.loop-done-test.true, c.requires.first_places)),
+      );
+    }
 
-pub returns-clause-first_ok : goal.returns-clause-first_ok
-returns-clause-first_ok g c =
+pub returns : goal.returns
+returns g c =
     let so = c.loop-done.invariant in
-    filled-to g.A.Code.held _ c.args.first.now c.loop-done.first c.loop-done.done _ c.loop-done.first_coder so.first_long so.first_others
-    so.first_led c.args.count (omega (arith, c.loop-done-test.false, c.loop-done.auto.done-end)) c.requires.first_places
-
-pub returns-clause-second_ok : goal.returns-clause-second_ok
-returns-clause-second_ok g c =
-    let so = c.loop-done.invariant in
-    filled-to g.B.Code.held _ c.args.second.now c.loop-done.second c.loop-done.done _ c.loop-done.second_coder so.second_long
-    so.second_others so.second_led c.args.count (omega (arith, c.loop-done-test.false, c.loop-done.auto.done-end))
-    c.requires.second_places
+    record {
+      first_goes_on = so.first_goes_on;
+      second_goes_on = so.second_goes_on;
+      first_length = so.first_long;
+      second_length = so.second_long;
+      first_ok = filled-to g.A.Code.held _ c.args.first.now c.loop-done.first c.loop-done.done _ c.loop-done.first_coder so.first_long
+          so.first_others so.first_led c.args.count (omega (arith, c.loop-done-test.false, c.loop-done.auto.done-end))
+          c.requires.first_places;
+      second_ok = filled-to g.B.Code.held _ c.args.second.now c.loop-done.second c.loop-done.done _ c.loop-done.second_coder so.second_long
+          so.second_others so.second_led c.args.count (omega (arith, c.loop-done-test.false, c.loop-done.auto.done-end))
+          c.requires.second_places;
+      err = tt;
+    }

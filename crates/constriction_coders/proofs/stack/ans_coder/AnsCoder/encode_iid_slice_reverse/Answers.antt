@@ -24,30 +24,36 @@ loop-done-preserved g c =
           c.loop-done.invariant.so_far));
     }
 
-pub returns-clause-ok : goal.returns-clause-ok
-returns-clause-ok g c =
+pub returns : goal.returns
+returns g c =
     let symbols = c.args.symbols.now in
     let none : length symbols - c.loop-done.done ≡ 0 = omega (arith, c.loop-done-test.false) in
+    let all =
     subst (λ n. InTurn (λ s. IsEncoded (entry_of g.E.EncoderModel.symbol_eq (g.E.EntropyModel.rows c.args.model.now) s) g.row.PRECISION)
-    (drop n symbols) (held_by c.loop-done.self) (held_by c.args.self.now)) none c.loop-done.invariant.so_far
+    (drop n symbols) (held_by c.loop-done.self) (held_by c.args.self.now)) none c.loop-done.invariant.so_far in
+    record { ok = all; err = tt }
 
-pub returns-in-Err-clause-err : goal.returns-in-Err-clause-err
-returns-in-Err-clause-err g c =
+pub returns-in-Err : goal.returns-in-Err
+returns-in-Err g c =
     let symbols = c.args.symbols.now in
     let at : ℕ = length symbols - 1 - c.loop-done.done in
-    let next : length symbols - c.loop-done.done ≡ suc at = omega (arith, c.loop-done-test.true) in (
-      reverse (drop (suc at) symbols),
-      c.index-symbols-count.result,
-      reverse (take at symbols),
-      split-back symbols at c.index-symbols-count.result (omega (arith, c.loop-done-test.true)) c.index-symbols-count.is,
-      record {
-        reached = c.loop-done.self;
-        led =
-            turns-back (λ x a b step. step) (drop (suc at) symbols) (held_by c.loop-done.self) (held_by c.args.self.now)
-            (subst (λ n. InTurn (λ s. IsEncoded (entry_of g.E.EncoderModel.symbol_eq (g.E.EntropyModel.rows c.args.model.now) s)
-            g.row.PRECISION) (drop n symbols) (held_by c.loop-done.self) (held_by c.args.self.now)) next c.loop-done.invariant.so_far);
-        impossible = λ fault is. c.in-Err.ensures.impossible fault (ap Err is);
-        step = c.in-Err.ensures.step;
-        same = c.in-Err.ensures.same;
-      },
-    )
+    let next : length symbols - c.loop-done.done ≡ suc at = omega (arith, c.loop-done-test.true) in
+    record {
+      ok = tt;
+      err = (
+        reverse (drop (suc at) symbols),
+        c.index-symbols-count.result,
+        reverse (take at symbols),
+        split-back symbols at c.index-symbols-count.result (omega (arith, c.loop-done-test.true)) c.index-symbols-count.is,
+        record {
+          reached = c.loop-done.self;
+          led =
+              turns-back (λ x a b step. step) (drop (suc at) symbols) (held_by c.loop-done.self) (held_by c.args.self.now)
+              (subst (λ n. InTurn (λ s. IsEncoded (entry_of g.E.EncoderModel.symbol_eq (g.E.EntropyModel.rows c.args.model.now) s)
+              g.row.PRECISION) (drop n symbols) (held_by c.loop-done.self) (held_by c.args.self.now)) next c.loop-done.invariant.so_far);
+          impossible = λ fault is. c.in-Err.ensures.impossible fault (ap Err is);
+          step = c.in-Err.ensures.step;
+          same = c.in-Err.ensures.same;
+        },
+      );
+    }
