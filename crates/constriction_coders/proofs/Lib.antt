@@ -13,6 +13,7 @@ pub mod Messages
 pub mod Narrowing
 pub mod NumberLemmas
 pub mod Once
+pub mod Outcomes
 pub mod PairsComingBack
 pub mod PlacesComingBack
 pub mod Placing

@@ -1,13 +1,20 @@
-use Rattle.std.proofs.Common.{subst}
+use Rattle.std.proofs.Common.{refl, subst}
 use Rattle.constriction_model.specs.Coding.{InTurn}
 use Rattle.constriction_model.specs.Rows.{entry_of}
 use Rattle.constriction_coders.specs.Spans.{Span, IsNarrowed}
+use Rattle.constriction_coders.proofs.Outcomes.{no-error, no-fault}
 use Rattle.constriction_coders.proofs.laws.queue.message_of.Goals as goal
 
-pub returns-in-Ok-into_compressed-clause-ok : goal.returns-in-Ok-into_compressed-clause-ok
-returns-in-Ok-into_compressed-clause-ok g c = (
-  c.encode_iid_slice.new.self,
-  subst (λ (s : Span). InTurn (λ x. IsNarrowed (entry_of g.E.EncoderModel.symbol_eq (g.E.EntropyModel.rows c.args.encoder.now) x)
-      g.row.PRECISION) c.args.symbols.now s c.encode_iid_slice.new.self) c.new-coder.ensures c.in-Ok.ensures.ok,
-  c.in-Ok-into_compressed.ensures.ok,
-)
+pub returns-in-Ok-into_compressed : goal.returns-in-Ok-into_compressed
+returns-in-Ok-into_compressed g c = record {
+  ok = (
+    c.encode_iid_slice.new.self,
+    subst (λ (s : Span). InTurn (λ x. IsNarrowed (entry_of g.E.EncoderModel.symbol_eq (g.E.EntropyModel.rows c.args.encoder.now) x)
+        g.row.PRECISION) c.args.symbols.now s c.encode_iid_slice.new.self) c.new-coder.ensures c.in-Ok.ensures.ok,
+    c.in-Ok-into_compressed.ensures.ok,
+  );
+  impossible = λ is. absurd (no-error _ _ is);
+}
+
+pub returns-in-Err-into_compressed : goal.returns-in-Err-into_compressed
+returns-in-Err-into_compressed g c = record { ok = tt; impossible = λ is. absurd (no-fault _ _ _ refl is) }

@@ -1,5 +1,6 @@
-use Rattle.std.proofs.Common.{sym, arith}
+use Rattle.std.proofs.Common.{refl, sym, arith}
 use Rattle.constriction_model.specs.lemmas.Coding.{entry-within}
+use Rattle.constriction_coders.proofs.Outcomes.{no-error, no-fault}
 use Rattle.constriction_coders.proofs.stack.ans_coder.AnsCoder.encode_prepared_symbol.Goals as goal
 
 pub put_prepared_entry-requires : goal.put_prepared_entry-requires
@@ -12,10 +13,23 @@ put_prepared_entry-requires g c = record {
       (c.in-Some.entry.left, c.in-Some.entry.weight) c.in-Some.ensures (g.met.M.EncoderModel.within_law c.args.model.now);
 }
 
-pub returns-in-Ok-clause-ok : goal.returns-in-Ok-clause-ok
-returns-in-Ok-clause-ok g c = record {
-  left = c.in-Some.entry.left;
-  weight = c.in-Some.entry.weight;
-  known = sym c.in-Some.ensures;
-  top = c.in-Ok.ensures.ok;
+pub returns-in-Ok : goal.returns-in-Ok
+returns-in-Ok g c = record {
+  ok = record {
+    left = c.in-Some.entry.left;
+    weight = c.in-Some.entry.weight;
+    known = sym c.in-Some.ensures;
+    top = c.in-Ok.ensures.ok;
+  };
+  impossible = λ fault is. absurd (no-error _ _ is);
+  wrote = c.in-Ok.ensures.wrote;
+  same = tt;
+}
+
+pub returns-in-Err : goal.returns-in-Err
+returns-in-Err g c = record {
+  ok = tt;
+  impossible = λ fault is. absurd (no-fault _ _ _ refl is);
+  wrote = c.in-Err.ensures.wrote;
+  same = c.in-Err.ensures.same;
 }
