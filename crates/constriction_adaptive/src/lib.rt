@@ -16,6 +16,7 @@ mod error;
 mod known_models;
 mod last_symbols;
 mod mixer;
+pub mod mixing;
 pub mod numbers;
 mod predictor;
 pub mod queue;

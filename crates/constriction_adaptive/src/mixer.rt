@@ -1,7 +1,6 @@
 //! Bits of bytes, by a mixer of hashed contexts.
 
 mod inputs;
-mod numbers;
 mod past;
 mod tables;
 
@@ -14,9 +13,10 @@ ghost use Rattle.constriction_adaptive.specs.Past.{past_after};
 
 use crate::bit::Bit;
 use crate::contexts::even;
-use crate::mixer::inputs::{adjust, ask, find, learn, mix};
+use crate::mixer::inputs::{ask, find, learn};
 use crate::mixer::past::Past;
 use crate::mixer::tables::Tables;
+use crate::mixing::{adjust, mix};
 use crate::predictor::{Predictor, Snapshot};
 use constriction_model::EntropyModel;
 use std::alloc::{AllocError, Global};

@@ -2,17 +2,26 @@
 
 ghost use Rattle.std.specs.Prelude.{◌≡◌, ◌+◌, ◌*◌, ◌<◌, ◌≤◌, ℕ, length, map, slice_index};
 ghost use Rattle.constriction_adaptive.specs.Mixing.{
-  error_of,
-  mixed,
   place,
   recent,
   slots_moved,
+  spread,
   strength,
-  weights_after,
 };
 
-use crate::mixer::numbers::{error_from, slot_moved_by, spread_over, weight_moved_by};
 use crate::mixer::tables::Tables;
+use crate::mixing::slot_moved_by;
+
+/// One of `count` places for a number.
+#[inline]
+pub(crate) fn spread_over(count: u32, key: u64) -> u32
+    requires { 0 < count }
+    ensures value { result ≡ spread count key }
+    ensures below { result < count }
+{
+    let hash = key.wrapping_mul(11400714819323198485) >> 32;
+    ((hash * count as u64) >> 32) as u32
+}
 
 /// What so many of the last bytes are, at the top of 64 bits.
 #[inline]
@@ -82,35 +91,6 @@ pub(crate) fn ask(
 {
     for (i, place) in places.iter().enumerate() {
         strengths[i] = tables.strength(slots[*place + path]);
-    }
-}
-
-/// How strongly the inputs speak for 0 together.
-#[inline]
-pub(crate) fn mix(weights: &[u32], strengths: &[u16]) -> usize
-    requires few { length weights.now ≤ 16 }
-    requires lengths { length strengths.now ≡ length weights.now }
-    ensures value { result ≡ mixed weights.now strengths.now }
-    ensures below { result < 4096 }
-{
-    let mut said = 0;
-    let mut neither = 0;
-    for (i, weight) in weights.iter().enumerate() {
-        said += *weight as u64 * strengths[i] as u64;
-        neither += *weight as u64 * 2048;
-    }
-    ((134217728 + said).saturating_sub(neither) / 65536).min(4095) as usize
-}
-
-/// Lets each input count more or less after a bit that was 0 with this weight.
-#[inline]
-pub(crate) fn adjust(weights: &mut [u32], strengths: &[u16], zero: u16, bit: bool)
-    requires { length strengths.now ≡ length weights.old }
-    ensures { weights.new ≡ weights_after bit (error_of bit zero) strengths.now weights.old }
-{
-    let error = error_from(zero, bit);
-    for i in 0..weights.len() {
-        weights[i] = weight_moved_by(weights[i], strengths[i], error, bit);
     }
 }
 

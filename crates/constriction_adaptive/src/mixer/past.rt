@@ -12,8 +12,7 @@ ghost use Rattle.constriction_adaptive.specs.Past.{
   told_after,
 };
 
-use crate::mixer::inputs::recent_bytes;
-use crate::mixer::numbers::spread_over;
+use crate::mixer::inputs::{recent_bytes, spread_over};
 use std::alloc::{AllocError, Global};
 use std::marker::Model;
 

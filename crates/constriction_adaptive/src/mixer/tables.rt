@@ -3,7 +3,7 @@
 ghost use Rattle.std.specs.Prelude.{◌≡◌, ◌+◌, ◌-◌, ◌*◌, ◌<◌, ℕ, length, slice_index};
 ghost use Rattle.constriction_adaptive.specs.Mixing.{logarithm, squash, strength};
 
-use crate::mixer::numbers::{logarithm_of, squash_of};
+use crate::mixing::{squash, strength_of_part};
 use std::alloc::{AllocError, Global};
 
 /// The strength of each 16 slots, and the weight of 0 for each strength.
@@ -25,8 +25,7 @@ fn fill_strengths(table: &mut [u16])
         → slice_index table.new k ≡ 2048 + logarithm (2 * k + 1) - logarithm (8191 - 2 * k) }
 {
     for i in 0..4096 {
-        let odd = 2 * i as u32 + 1;
-        table[i] = (2048 + logarithm_of(odd) - logarithm_of(8192 - odd)) as u16;
+        table[i] = strength_of_part(i as u16);
     }
 }
 
@@ -36,7 +35,7 @@ fn fill_squashes(table: &mut [u16])
     ensures { (k : ℕ) → k < 4096 → slice_index table.new k ≡ squash k }
 {
     for i in 0..4096 {
-        table[i] = squash_of(i as u32);
+        table[i] = squash(i as u16);
     }
 }
 
@@ -71,10 +70,10 @@ impl Tables {
 
     /// The weight of 0 for which this strength speaks.
     #[inline]
-    pub(crate) fn squash(&self, strength: usize) -> u16
+    pub(crate) fn squash(&self, strength: u16) -> u16
         requires { strength < 4096 }
         ensures { result ≡ squash strength }
     {
-        self.squashes[strength]
+        self.squashes[strength as usize]
     }
 }

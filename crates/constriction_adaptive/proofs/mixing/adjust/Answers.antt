@@ -1,7 +1,7 @@
 use Rattle.std.proofs.Common.{ℕ, get_or, length, arith}
 use Rattle.std.proofs.lemmas.List.FromFn.{fill_by_all}
 use Rattle.constriction_adaptive.specs.Mixing.{weight_after}
-use Rattle.constriction_adaptive.proofs.mixer.inputs.adjust.Goals as goal
+use Rattle.constriction_adaptive.proofs.mixing.adjust.Goals as goal
 
 pub returns : goal.returns
 returns c =

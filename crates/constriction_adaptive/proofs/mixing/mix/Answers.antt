@@ -2,7 +2,7 @@ use Rattle.std.proofs.Common.{◌*◌, ◌≤◌, ◌<◌, get_or, rules, arith}
 use Rattle.std.proofs.lemmas.Grind.{common_steps}
 use Rattle.std.proofs.lemmas.Nat.{mul-le}
 use Rattle.constriction_adaptive.proofs.ListLemmas.{sum_more}
-use Rattle.constriction_adaptive.proofs.mixer.inputs.mix.Goals as goal
+use Rattle.constriction_adaptive.proofs.mixing.mix.Goals as goal
 
 pub loop-i-preserved : goal.loop-i-preserved
 loop-i-preserved c =

@@ -1,6 +1,6 @@
 use Rattle.std.proofs.Common.{◌≡◌, ℕ, ◌<◌, ◌≤◌, get_or}
 use Rattle.constriction_adaptive.specs.Mixing.{weight_after}
-use Rattle.constriction_adaptive.proofs.mixer.inputs.adjust.Given as goal
+use Rattle.constriction_adaptive.proofs.mixing.adjust.Given as goal
 
 -- each weight so far, and the others as they were
 abbrev pub invariant-loop-i : goal.invariant-loop-i

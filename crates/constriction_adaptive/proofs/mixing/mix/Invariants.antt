@@ -1,6 +1,6 @@
 use Rattle.std.proofs.Common.{◌≡◌, ◌*◌, ◌≤◌, get_or, map, sum}
 use Rattle.std.specs.List.{range_with_len}
-use Rattle.constriction_adaptive.proofs.mixer.inputs.mix.Given as goal
+use Rattle.constriction_adaptive.proofs.mixing.mix.Given as goal
 
 -- both sums so far
 abbrev pub invariant-loop-i : goal.invariant-loop-i
