@@ -7,6 +7,11 @@ use Rattle.constriction_model.specs.Rows.{Row, rows_of}
 abbrev pub bit_rows : ℕ → List (Row Bool)
 bit_rows weight = rows_of (false ∷ true ∷ []) (weight ∷ (65536 - weight) ∷ [])
 
+-- the weight of 0 by the rows of a bit, of which that of 0 is the first
+abbrev pub zero_weight : List (Row Bool) → ℕ
+zero_weight [] = 0
+zero_weight (row ∷ rows) = row.weight
+
 -- a weight, but 1 for 0
 abbrev pub at_least_one : ℕ → ℕ
 at_least_one zero = 1

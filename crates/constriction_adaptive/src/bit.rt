@@ -4,7 +4,7 @@ ghost use Rattle.std.specs.Prelude.{◌≡◌, ◌<◌};
 ghost use Rattle.std.specs.Bool.{beq};
 ghost use Rattle.std.specs.Cmp.{bool_eq_equiv};
 ghost use Rattle.std.proofs.Common.{lit<, lit≤};
-ghost use Rattle.constriction_adaptive.specs.Bit.{at_least_one, bit_rows};
+ghost use Rattle.constriction_adaptive.specs.Bit.{at_least_one, bit_rows, zero_weight};
 ghost use Rattle.constriction_adaptive.specs.lemmas.Bit.{bit-tile, bit-within};
 
 use constriction_model::{DecoderModel, EncoderModel, EntropyModel, Weight};
@@ -30,6 +30,15 @@ impl Bit {
             return Bit { zero: 1 };
         }
         Bit { zero: weight }
+    }
+
+    /// How much of 65,536 stands for `false`: 1 to 65,535.
+    #[inline]
+    pub fn weight(&self) -> u16
+        ensures value { result ≡ zero_weight (⟦<Bit as EntropyModel<16>>⟧.rows self.now) }
+        ensures some { 0 < result }
+    {
+        self.zero
     }
 }
 

@@ -6,6 +6,7 @@
 //! predicted ([`numbers`]), such as [`bytes`].
 #![tactic(auto)]
 
+mod adaptive_bit;
 mod bit;
 mod by_context;
 pub mod bytes;
@@ -22,6 +23,7 @@ mod predictor;
 pub mod queue;
 pub mod stack;
 
+pub use self::adaptive_bit::AdaptiveBit;
 pub use self::bit::Bit;
 pub use self::by_context::{ByContext, Context};
 pub use self::categorical::AdaptiveCategorical;
