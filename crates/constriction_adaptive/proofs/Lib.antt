@@ -1,5 +1,6 @@
 pub mod Bits
 pub mod ByContextLemmas
+pub mod ByMixingLemmas
 pub mod CategoricalLemmas
 pub mod Entries
 pub mod LastSymbolsLemmas

@@ -1,5 +1,6 @@
 pub mod Bit
 pub mod ByContext
+pub mod ByMixing
 pub mod Categorical
 pub mod Contexts
 pub mod Entries

@@ -9,6 +9,7 @@
 mod adaptive_bit;
 mod bit;
 mod by_context;
+mod by_mixing;
 pub mod bytes;
 mod categorical;
 mod contexts;
@@ -26,6 +27,7 @@ pub mod stack;
 pub use self::adaptive_bit::AdaptiveBit;
 pub use self::bit::Bit;
 pub use self::by_context::{ByContext, Context};
+pub use self::by_mixing::{BitPredictors, ByMixing};
 pub use self::categorical::AdaptiveCategorical;
 pub use self::contexts::{ByteContexts, HashedContexts, OrderOne};
 pub use self::decoding::{decode_adaptively, decode_next};
