@@ -24,6 +24,8 @@ mod mixed;
 #[cfg(test)]
 mod numbers;
 #[cfg(test)]
+mod own_mixer;
+#[cfg(test)]
 mod packed_files;
 #[cfg(test)]
 mod packing;
