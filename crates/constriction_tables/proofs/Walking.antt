@@ -1,8 +1,10 @@
 -- Walking through the rows of a table.
-use Rattle.std.specs.Prelude.{◌≡◌, ℕ, ◌+◌, ◌-◌, ◌<◌, ◌≤◌, List, [], ◌∷◌, ◌++◌, All, drop, length, map, replicate}
+use Rattle.std.specs.Prelude.{◌≡◌, ℕ, ◌+◌, ◌-◌, ◌<◌, ◌≤◌, Bool, true, false, cond, nat_eq, All}
+use Rattle.std.specs.Prelude.{List, [], ◌∷◌, ◌++◌, drop, length, map, replicate}
 use Rattle.std.proofs.Common.{suc, zero, get_or, refl, ap, sym, subst, ◌∙◌, arith}
 use Rattle.std.proofs.Math.ListN.{get_or-append}
-use Rattle.std.proofs.lemmas.List.{drop-drop, get_or-drop, get_or-map, get_or-replicate, length-append, length-drop, length-map, length-replicate}
+use Rattle.std.proofs.lemmas.List.{drop-drop, get_or-drop, get_or-map, get_or-replicate}
+use Rattle.std.proofs.lemmas.List.{length-append, length-drop, length-map, length-replicate}
 use Rattle.std.proofs.lemmas.List.Elements.{All-head, All-tail}
 use Rattle.constriction_model.specs.Rows.{Row, rows_from, symbols_of}
 use Rattle.constriction_tables.specs.Table.{numbered, rows_after, rows_begun, spread, IsTable, StandsFrom}
@@ -115,3 +117,13 @@ module _ {S : Type 0} (number : S → ℕ) (same : (s t : S) → number s ≡ nu
 
     pub step-rest : StandsFrom number (from + w) (drop (from + w) (map row_in items))
     step-rest = subst (λ (k : ℕ). StandsFrom number (from + k) (drop (from + k) (map row_in items))) (sym weight) step.rest
+
+-- no more rows begin than there are places
+pub begun-few : {S : Type 0} (q : ℕ) (places : List (Row S)) → length (rows_begun q places) ≤ length places
+begun-few q [] = omega arith
+begun-few {S} q (r ∷ rs) = go (nat_eq r.left q) (begun-few (q + 1) rs)
+  where
+    go : (here : Bool) → length (rows_begun (q + 1) rs) ≤ length rs
+        → length (cond here (r ∷ rows_begun (q + 1) rs) (rows_begun (q + 1) rs)) ≤ length (r ∷ rs)
+    go true few = omega (arith, few)
+    go false few = omega (arith, few)

@@ -11,9 +11,11 @@ ghost use Rattle.constriction_tables.specs.lemmas.Tables.{same_number-equivalenc
 
 use crate::entry::TableEntry;
 use crate::partial::entry_at;
+use constriction_categorical::IterableEntropyModel;
 use constriction_coders::stack::{PreparedEntry, PreparedModel};
 use constriction_model::{DecoderModel, EncoderModel, EntropyModel, Weight};
 use constriction_numbers::WholeNumber;
+use constriction_stored_rows::copy_of;
 use std::alloc::AllocError;
 
 /// A model of symbols that are small numbers, with one entry for each quantile.
@@ -53,6 +55,37 @@ impl<Entry: TableEntry, const PRECISION: usize> EntropyModel<PRECISION>
     ghost rows = { table_model_rows };
 
     ghost precision_law = { λ m. m.precise };
+}
+
+impl<Entry: TableEntry, const PRECISION: usize> DirectTableModel<Entry, PRECISION> {
+    ghost use Rattle.constriction_tables.specs.ModelRows.{table_model_rows};
+
+    /// How many symbols the model has. It walks through their rows.
+    pub fn support_size(&self) -> usize
+        ensures { result ≡ length (table_model_rows self.now) }
+    {
+        let mut walk = self.symbol_table();
+        let mut count = 0;
+        'rows: while let Some(_) = walk.next() {
+            count += 1;
+        }
+        count
+    }
+}
+
+impl<Entry: TableEntry, const PRECISION: usize> Clone for DirectTableModel<Entry, PRECISION> {
+    ghost use Rattle.constriction_tables.specs.ModelRows.{table_model_rows};
+
+    ghost is_clone = { λ x y. table_model_rows y ≡ table_model_rows x };
+
+    /// A copy of the model. Its words and its entries come from the allocators of this model's.
+    ///
+    /// Two allocations, and one copy of each.
+    fn clone(&self) -> Result<Self, AllocError> {
+        let entries = copy_of(*self.entries.allocator(), &self.entries)?;
+        let by_symbol = copy_of(*self.by_symbol.allocator(), &self.by_symbol)?;
+        Ok(Self { entries, by_symbol })
+    }
 }
 
 impl<Entry: TableEntry, const PRECISION: usize> EncoderModel<PRECISION>
