@@ -14,6 +14,8 @@ SIDES = {
     "repeats": "repeats refused here",
     "slots": "fewer slots here",
     "search": "a search there",
+    "nearest": "its nearest there",
+    "c": "C there",
 }
 # The parts that the pages and pictures tell apart: a heading, and what its kernels compare.
 PARTS = (
@@ -22,11 +24,14 @@ PARTS = (
     ("The same work, which this project wrote out for both sides", ("written",)),
     ("Other work here, by a rule: repeats are refused, or a table has fewer slots", ("repeats", "slots")),
     ("A lookup table, which the Rust crate lacks, beside its search", ("search",)),
+    ("A table with an entry for each quantile, which the Rust crate lacks, beside its lookup model and its division", ("nearest",)),
+    ("The same work as C, which this project wrote", ("c",)),
 )
 # The loop that each kernel has too, which is no measurement of its own.
 LOOP = "nothing but the loop"
 # What kernels do, and how their names begin: the first that fits counts.
 SUBJECTS = (
+    ("a byte, by a table", "direct table "),
     ("a look-up by a division", "uniform quantile"),
     ("a look-up by a search", "(contiguous|decoder of symbols) quantile"),
     ("a look-up by a slot for each quantile", "direct lookup.* quantile"),
@@ -86,13 +91,13 @@ def table_of(made, head, said):
 
 def times_of(made):
     said = lambda it: [nanoseconds(it["rust"]), nanoseconds(it["here"]), ratio_text(it)]
-    return table_of(made, ["Rust, ns", "Here, ns", "Ratio"], said)
+    return table_of(made, ["There, ns", "Here, ns", "Ratio"], said)
 
 
 def times_by_parts(made):
     """Returns the tables of times, each below the heading of its part."""
     parts = ((heading, [it for it in made if it["sides"] in sides]) for heading, sides in PARTS)
-    return "\n\n".join(f"### {heading}\n\n{markdown(times_of(these))}" for heading, these in parts)
+    return "\n\n".join(f"### {heading}\n\n{markdown(times_of(these))}" for heading, these in parts if these)
 
 
 def memory_of(made):
@@ -124,7 +129,7 @@ def ratios_of(saved):
         of = {}
         for it in part_of(saved, sides):
             of.setdefault(next(subject for subject, begins in SUBJECTS if re.match(begins, it["name"])), []).append(it)
-        table.append([f"**{heading}**", *[""] * 3])
+        table += [[f"**{heading}**", *[""] * 3]] if of else []
         for subject, these in of.items():
             these.sort(key=ratio)
             table.append([subject, str(len(these)), *(ratio_text(it) for it in (these[len(these) // 2], these[-1]))])

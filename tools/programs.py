@@ -17,13 +17,14 @@ TARGET = f"{TOP}/bench/target"
 # The crate that the benchmark measures, which is not in crates.txt: its name, where its files stand, and what it uses.
 KERNELS = "constriction_kernels"
 OF_KERNELS = "bench/kernels"
-KERNELS_USE = "constriction constriction_client constriction_words constriction_coders constriction_pack"
+KERNELS_USE = "constriction constriction_client constriction_words constriction_coders constriction_tables constriction_pack"
 # How `rt ci` says that a crate is proved.
 PROVED = re.compile(r"^rt: (\w+) (?:is kept|proved)", re.M)
 # The commands that the tools run, and where they come from.
 COMMANDS = {
     "rt": "install the kit of Rattle, whose command it is, and have it on the PATH",
     "cargo": "install Rust, by https://rustup.rs or the system's package cargo",
+    "cc": "install a compiler of C, as the system's package gcc",
     "objcopy": "install the system's package binutils",
     "dot": "install the system's package graphviz",
     "gnuplot": "install the system's package gnuplot-nox",

@@ -2,9 +2,9 @@
 //!
 //! Of Rattle's functions a slice is a pointer and a length, and an allocator is nothing. What each requires is
 //! asked of its caller here: quantiles lie below `2^PRECISION`, a uniform model has 2 to `2^24` symbols, no two
-//! symbols of a table are equal, and a block has 1 to `2^20` bytes.
+//! symbols of a table are equal, a block has 1 to `2^20` bytes, and bytes have at most 256 weights.
 
-/// A safe function for each export, over slices.
+/// A safe function for each export, over slices. Each goes with a length after it, as those of `bench/c` do.
 macro_rules! exports {
     ($($name:ident = $symbol:ident($($slice:ident: [$word:ty]),*);)*) => {
         $(
@@ -18,6 +18,8 @@ macro_rules! exports {
         )*
     };
 }
+
+pub(crate) use exports;
 
 exports! {
     nothing = kernel_nothing(words: [u32]);
@@ -62,6 +64,9 @@ exports! {
     range_decode = kernel_range_decode(weights: [u32], symbols: [u32]);
     pack_block = kernel_pack_block(bytes: [u8]);
     unpack_block = kernel_unpack_block(bytes: [u8]);
+    table_encode = kernel_table_encode(weights: [u32], bytes: [u8]);
+    table_decode = kernel_table_decode(weights: [u32], bytes: [u8]);
+    table_decode_two = kernel_table_decode_two(weights: [u32], bytes: [u8]);
     cursor_queue_read = kernel_cursor_queue_read(words: [u32]);
     cursor_stack_read = kernel_cursor_stack_read(words: [u32]);
     reverse_stack_read = kernel_reverse_stack_read(words: [u32]);

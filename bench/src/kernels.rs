@@ -1,6 +1,6 @@
 //! The kernels of both sides, paired over the same inputs.
 use crate::inputs::{Inputs, SmallTable, Table, BLOCK, MANY};
-use crate::{here, rust};
+use crate::{c, here, rust};
 use std::hint::black_box;
 
 /// Goes over the input as many times as the argument says, and returns a checksum.
@@ -21,6 +21,11 @@ pub enum Sides {
     Slots,
     /// A lookup table here. The Rust crate has none over such words, so its searching model is measured.
     Search,
+    /// A table with an entry for each quantile here. The Rust crate has none, so its lookup model and its division are
+    /// measured, under a coder that this project wrote.
+    Nearest,
+    /// The same work. The other side is in C, which this project wrote.
+    C,
 }
 
 impl Sides {
@@ -33,6 +38,8 @@ impl Sides {
             Sides::Repeats => "repeats",
             Sides::Slots => "slots",
             Sides::Search => "search",
+            Sides::Nearest => "nearest",
+            Sides::C => "c",
         }
     }
 }
@@ -46,7 +53,8 @@ pub struct Kernel {
     pub rows: usize,
     /// how many items a pass goes over: quantiles, symbols, words, or weights of a model that is made
     pub items: usize,
-    pub rust: Run,
+    /// the Rust crate's side, or the one in C
+    pub there: Run,
     pub here: Run,
 }
 
@@ -58,7 +66,7 @@ impl Kernel {
 
     /// Whether both sides compute the same checksum.
     pub fn agrees(&mut self) -> bool {
-        [0, 1, 2].into_iter().all(|repeats| (self.rust)(repeats) == (self.here)(repeats))
+        [0, 1, 2].into_iter().all(|repeats| (self.there)(repeats) == (self.here)(repeats))
     }
 }
 
@@ -66,13 +74,16 @@ impl Kernel {
 /// be compiled for it.
 macro_rules! kernel {
     ($name:literal, $words:literal, $rows:expr, $items:expr, $function:ident($($argument:expr),*)) => {
+        kernel!($name, $words, $rows, $items, rust::$function($($argument),*))
+    };
+    ($name:literal, $words:literal, $rows:expr, $items:expr, $there:ident::$function:ident($($argument:expr),*)) => {
         Kernel {
             name: $name,
             sides: Sides::Same,
             words: $words,
             rows: $rows,
             items: $items,
-            rust: Box::new(move |repeats| rust::$function($(black_box($argument),)* repeats)),
+            there: Box::new(move |repeats| $there::$function($(black_box($argument),)* repeats)),
             here: Box::new(move |repeats| here::$function($(black_box($argument),)* repeats)),
         }
     };
@@ -89,7 +100,7 @@ macro_rules! writing {
             words: "u32",
             rows: 0,
             items: MANY,
-            rust: Box::new(move |repeats| rust::$function($($argument,)* &mut first, repeats)),
+            there: Box::new(move |repeats| rust::$function($($argument,)* &mut first, repeats)),
             here: Box::new(move |repeats| here::$function($($argument,)* &mut second, repeats)),
         }
     }};
@@ -233,6 +244,14 @@ pub fn usual() -> Vec<Kernel> {
     let (text, random) = (inputs.text(), inputs.random_bytes());
     kernels.push(kernel!("pack_block of text", "u32/16", rows_of(text), BLOCK, pack_block(text)).with(Sides::Written));
     kernels.push(kernel!("pack_block of random bytes", "u32/16", rows_of(random), BLOCK, pack_block(random)).with(Sides::Written));
+    let (weights, bytes) = (weights_of(text, 12), &text[..MANY]);
+    let rows = weights.len();
+    kernels.push(kernel!("direct table decode_into", "u32/12", rows, MANY, table_decode(weights, bytes)).with(Sides::Nearest));
+    kernels.push(kernel!("direct table decode_into", "u32/12", rows, MANY, c::table_decode(weights, bytes)).with(Sides::C));
+    kernels.push(kernel!("direct table decode_two", "u32/12", rows, MANY, table_decode_two(weights, bytes)).with(Sides::Nearest));
+    kernels.push(kernel!("direct table decode_two", "u32/12", rows, MANY, c::table_decode_two(weights, bytes)).with(Sides::C));
+    kernels.push(kernel!("direct table encode_prepared_slice_reverse", "u32/12", rows, MANY, table_encode(weights, bytes)).with(Sides::Nearest));
+    kernels.push(kernel!("direct table encode_prepared_slice_reverse", "u32/12", rows, MANY, c::table_encode(weights, bytes)).with(Sides::C));
     kernels.push(kernel!("unpack_block of text", "u32/16", rows_of(text), BLOCK, unpack_block(text)).with(Sides::Slots));
     kernels
 }
@@ -271,6 +290,22 @@ fn words_below_256(words: &'static [u32]) -> &'static [u32] {
 /// How many rows the model of these bytes has.
 fn rows_of(bytes: &[u8]) -> usize {
     bytes.iter().max().map_or(0, |most| usize::from(*most) + 1)
+}
+
+/// Weights of bytes over `2^precision`: one quantile each, up to the greatest byte, and its share of the others. The most
+/// frequent byte has what is left.
+fn weights_of(bytes: &[u8], precision: u32) -> &'static [u32] {
+    let mut counts = vec![0u64; rows_of(bytes)];
+    for byte in bytes {
+        counts[usize::from(*byte)] += 1;
+    }
+    let shared = (1 << precision) - counts.len() as u64;
+    let mut weights: Vec<u32> = counts.iter().map(|count| 1 + (count * shared / bytes.len() as u64) as u32).collect();
+    let left = (1 << precision) - weights.iter().sum::<u32>();
+    if let Some(most) = weights.iter_mut().max() {
+        *most += left;
+    }
+    weights.leak()
 }
 
 fn uniform_quantile(inputs: &Inputs, rows: usize) -> Kernel {

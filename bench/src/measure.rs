@@ -57,16 +57,16 @@ fn repeats_of(run: &mut Run, effort: &Effort) -> u32 {
 
 impl Samples {
     pub fn new(kernel: &mut Kernel, effort: &Effort) -> Self {
-        let sides = [&mut kernel.rust, &mut kernel.here].map(|run| Least { repeats: repeats_of(run, effort), none: f64::MAX, all: f64::MAX });
+        let sides = [&mut kernel.there, &mut kernel.here].map(|run| Least { repeats: repeats_of(run, effort), none: f64::MAX, all: f64::MAX });
         // what takes long at once is disturbed less, and is sampled less often
-        let is_long = [&mut kernel.rust, &mut kernel.here].into_iter().any(|run| timed(run, 1) > 1e8);
+        let is_long = [&mut kernel.there, &mut kernel.here].into_iter().any(|run| timed(run, 1) > 1e8);
         Samples { sides, is_long }
     }
 
     /// Takes the samples of a round.
     pub fn take(&mut self, kernel: &mut Kernel, effort: &Effort) {
         for _ in 0..if self.is_long { 3 } else { effort.samples } {
-            for (run, least) in [&mut kernel.rust, &mut kernel.here].into_iter().zip(&mut self.sides) {
+            for (run, least) in [&mut kernel.there, &mut kernel.here].into_iter().zip(&mut self.sides) {
                 least.none = least.none.min(timed(run, 0));
                 least.all = least.all.min(timed(run, least.repeats));
             }

@@ -12,6 +12,7 @@ mod lookups;
 mod packing;
 mod range_coder;
 mod searches;
+mod tables;
 mod uniform;
 
 pub use adapters::*;
@@ -25,6 +26,7 @@ pub use lookups::*;
 pub use packing::*;
 pub use range_coder::*;
 pub use searches::*;
+pub use tables::*;
 pub use uniform::*;
 
 /// The checksum with one more number. Each needs the one before, so no compiler takes several at a time.

@@ -69,7 +69,7 @@ fn main() {
         if !makes || !(words.is_empty() || words.iter().any(|word| kernel.name.contains(word.as_str()))) {
             continue;
         }
-        let sides = [&mut kernel.rust, &mut kernel.here].map(pass);
+        let sides = [&mut kernel.there, &mut kernel.here].map(pass);
         print!("{}\t{}\t{}\t{}", kernel.name, kernel.sides.name(), kernel.words, kernel.rows);
         for side in sides {
             print!("\t{}\t{}\t{}", side[0], side[1], side[2]);

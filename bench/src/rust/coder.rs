@@ -13,7 +13,13 @@ pub(super) struct StackCoder {
 
 impl StackCoder {
     pub(super) fn new() -> Self {
-        StackCoder { state: 0, words: Vec::new() }
+        Self::over(Vec::new())
+    }
+
+    /// A coder that holds nothing, with the memory of these words.
+    pub(super) fn over(mut words: Vec<u32>) -> Self {
+        words.clear();
+        StackCoder { state: 0, words }
     }
 
     pub(super) fn is_empty(&self) -> bool {
