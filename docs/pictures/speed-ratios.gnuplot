@@ -1,6 +1,6 @@
 set terminal svg size 760,1646 font "Helvetica,12" background "white" noenhanced
 set output "docs/pictures/speed-ratios.svg"
-set label 8 "The time of each kernel, over the Rust crate's" at screen 0.03, screen 0.98542 font "Helvetica Bold,14"
+set label 8 "The time of each kernel, over that of the other side" at screen 0.03, screen 0.98542 font "Helvetica Bold,14"
 set label 9 "A dot for each number of rows; those above 1.1 are orange. Each part has a scale of its own." at screen 0.03, screen 0.97266 textcolor "#57606a"
 set border 0; set tics scale 0 textcolor "#57606a"; set grid lc "#d0d7de" lt 1 lw 1
 set logscale x; unset key; set lmargin at screen 0.44; set rmargin at screen 0.8
