@@ -22,10 +22,10 @@ use std::process::Abort;
 fn samples_back(alloc: Global, samples: &[u16]) -> Result<Vec<u16>, EncoderFrontendError>
     ensures { IfOk result (λ again. again.items ≡ samples.now) }
 {
-    let (Ok(mut encoding), Ok(mut decoding)) = (
-        HashedContexts::<3>::new(alloc),
-        HashedContexts::<3>::new(alloc),
-    ) else {
+    let Ok(mut encoding) = HashedContexts::<3>::new(alloc) else {
+        return Err(EncoderFrontendError::OutOfMemory);
+    };
+    let Ok(mut decoding) = HashedContexts::<3>::new(alloc) else {
         return Err(EncoderFrontendError::OutOfMemory);
     };
     numbers_come_back::<_, u16, 12>(alloc, &mut encoding, &mut decoding, samples)
@@ -39,12 +39,10 @@ fn samples_come_back_by_their_bits(rt: HostRuntime) {
         Ok(again) => holds(&rt, &again, &samples),
         Err(_) => panic!(rt; "nothing came back"),
     }
-    let refused = samples_back(alloc, &[5, 4096]);
-    same(
-        &rt,
-        refused.is_err_and(|error| error == EncoderFrontendError::ImpossibleSymbol),
-        true,
-    );
+    match samples_back(alloc, &[5, 4096]) {
+        Err(EncoderFrontendError::ImpossibleSymbol) => {}
+        _ => panic!(rt; "a number of 13 bits was not refused"),
+    }
 }
 
 /// What is decoded of the words of numbers of 32 bits: from a source, and where they are lent.
