@@ -14,11 +14,11 @@ returns-then-range g c =
     record {
       goes_on = c.requires;
       ok =
-          read_wide g.D.DecoderModel.stands_for (g.D.EntropyModel.rows c.args.model.now) g.Source.ReadWords.read_gives g.row.PRECISION row.0
-          c.in-Ok.symbol c.args.self.now.range c.args.self.now.offset c.unit_of-unit.result c.in-Ok.entry.0 c.in-Ok.entry.1 c.in-Some.quantile
-          c.args.self.now.words c.args.self.now.words c.unit_of-unit.ensures.value row.2 row.1 c.part_of-range.ensures.low
-          c.part_of-range.ensures.high c.part_of-range.result.0 c.part_of-range.result.1 c.part_of-range.ensures.range
-          c.part_of-range.ensures.offset c.if-range.true refl;
+          read_wide g.D.DecoderModel.stands_for (g.D.EntropyModel.rows c.args.model.now) g.Source.ReadWords.read_gives g.row.PRECISION
+          row.0 c.in-Ok.symbol c.args.self.now.range c.args.self.now.offset c.unit_of-unit.result c.in-Ok.entry.0 c.in-Ok.entry.1
+          c.in-Some.quantile c.args.self.now.words c.args.self.now.words c.unit_of-unit.ensures.value row.2 row.1
+          c.part_of-range.ensures.low c.part_of-range.ensures.high c.part_of-range.result.0 c.part_of-range.result.1
+          c.part_of-range.ensures.range c.part_of-range.ensures.offset c.if-range.true refl;
       step = record { inside = c.part_of-range.ensures.inside; fault = tt; same = tt };
       same = λ fault is. absurd (no-error _ _ is);
     }
@@ -39,11 +39,11 @@ returns-in-Ok-next_or_zero g c =
     record {
       goes_on = c.in-Ok-next_or_zero.ensures.goes_on;
       ok =
-          read_small g.D.DecoderModel.stands_for (g.D.EntropyModel.rows c.args.model.now) g.Source.ReadWords.read_gives g.row.PRECISION row.0
-          c.in-Ok.symbol c.args.self.now.range c.args.self.now.offset c.unit_of-unit.result c.in-Ok.entry.0 c.in-Ok.entry.1 c.in-Some.quantile
-          c.args.self.now.words c.next_or_zero.new.source c.unit_of-unit.ensures.value row.2 row.1 c.part_of-range.ensures.low
-          c.part_of-range.ensures.high c.part_of-range.result.0 c.part_of-range.result.1 c.in-Ok-next_or_zero.word
-          (c.part_of-range.result.0 * 4294967296 % 18446744073709551616)
+          read_small g.D.DecoderModel.stands_for (g.D.EntropyModel.rows c.args.model.now) g.Source.ReadWords.read_gives g.row.PRECISION
+          row.0 c.in-Ok.symbol c.args.self.now.range c.args.self.now.offset c.unit_of-unit.result c.in-Ok.entry.0 c.in-Ok.entry.1
+          c.in-Some.quantile c.args.self.now.words c.next_or_zero.new.source c.unit_of-unit.ensures.value row.2 row.1
+          c.part_of-range.ensures.low c.part_of-range.ensures.high c.part_of-range.result.0 c.part_of-range.result.1
+          c.in-Ok-next_or_zero.word (c.part_of-range.result.0 * 4294967296 % 18446744073709551616)
           (c.part_of-range.result.1 * 4294967296 % 18446744073709551616 + c.in-Ok-next_or_zero.word)
           c.part_of-range.ensures.range c.part_of-range.ensures.offset c.if-range.false (omega (arith, c.if-range.false))
           (omega (arith, c.if-range.false, c.part_of-range.ensures.inside)) read.0 read.1 read.2;

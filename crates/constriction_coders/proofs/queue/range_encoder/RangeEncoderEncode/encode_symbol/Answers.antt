@@ -1,6 +1,7 @@
 use Rattle.std.proofs.Common.{◌*◌, ◌%◌, refl, arith}
 use Rattle.constriction_coders.specs.Spans.{span_of}
 use Rattle.constriction_coders.proofs.Narrowing.{widened-wide, widened-small, part-reached}
+use Rattle.constriction_coders.proofs.Outcomes.{no-error, no-fault}
 use Rattle.constriction_coders.proofs.queue.range_encoder.RangeEncoderEncode.encode_symbol.Goals as goal
 
 pub invariant_of-self : goal.invariant_of-self
@@ -27,3 +28,12 @@ invariant_of-self-2 g c =
     low refl long c.widened-self-inside.new.words.items c.widened-self-inside.result
     (c.unit_of-unit.result * c.in-Some.weight * 4294967296 % 18446744073709551616) c.if-range.false c.widened-self-inside.ensures.value
     c.widened-self-inside.ensures.length (omega (arith, c.if-range.false)))
+
+pub returns-then-range-clause-impossible : goal.returns-then-range-clause-impossible
+returns-then-range-clause-impossible g c = λ fault is. absurd (no-error _ _ is)
+
+pub returns-clause-impossible : goal.returns-clause-impossible
+returns-clause-impossible g c = λ fault is. absurd (no-error _ _ is)
+
+pub returns-in-Err-clause-impossible : goal.returns-in-Err-clause-impossible
+returns-in-Err-clause-impossible g c = λ fault is. absurd (no-fault _ _ _ refl is)
