@@ -1,7 +1,7 @@
 use Rattle.std.proofs.Common.{◌*◌, ◌%◌, refl, arith}
 use Rattle.constriction_coders.specs.Spans.{span_of}
 use Rattle.constriction_coders.proofs.Narrowing.{widened-wide, widened-small, part-reached}
-use Rattle.constriction_coders.proofs.Outcomes.{no-error, no-fault}
+use Rattle.constriction_coders.proofs.Outcomes.{no-error}
 use Rattle.constriction_coders.proofs.queue.range_encoder.RangeEncoderEncode.encode_symbol.Goals as goal
 
 pub invariant_of-self : goal.invariant_of-self
@@ -34,6 +34,3 @@ returns-then-range-clause-impossible g c = λ fault is. absurd (no-error _ _ is)
 
 pub returns-clause-impossible : goal.returns-clause-impossible
 returns-clause-impossible g c = λ fault is. absurd (no-error _ _ is)
-
-pub returns-in-Err-clause-impossible : goal.returns-in-Err-clause-impossible
-returns-in-Err-clause-impossible g c = λ fault is. absurd (no-fault _ _ _ refl is)
