@@ -9,7 +9,9 @@ pub mod ListLemmas
 pub mod MessageReading
 pub mod MixerLemmas
 pub mod NumberLemmas
+pub mod PairLemmas
 pub mod ReadOnce
 pub mod Rows
 pub mod Runs
 pub mod Telling
+pub mod UniformBitsLemmas

@@ -9,6 +9,7 @@ pub mod LastSymbols
 pub mod Mixer
 pub mod Mixing
 pub mod Numbers
+pub mod Pair
 pub mod Past
 pub mod Predicted
 pub mod lemmas

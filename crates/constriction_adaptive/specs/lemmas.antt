@@ -2,3 +2,5 @@ pub mod Bit
 pub mod ByContext
 pub mod Categorical
 pub mod LastSymbols
+pub mod Pair
+pub mod UniformBits
