@@ -31,3 +31,5 @@ mod packed_files;
 mod packing;
 #[cfg(test)]
 mod runs;
+#[cfg(test)]
+mod samples;

@@ -1,0 +1,189 @@
+//! Samples of 16 bits in one message: a class by the class before, and then as many bits as it has.
+
+ghost use Rattle.std.specs.Prelude.{◌≡◌, ◌++◌, ◌^◌, ◌<◌, ◌≤◌, All, IfOk, List, false, length, nat_eq, ℕ};
+ghost use Rattle.std.specs.List.{range_with_len};
+ghost use Rattle.constriction_adaptive.specs.ByContext.{state_of};
+ghost use Rattle.constriction_adaptive.specs.Categorical.{even_many};
+ghost use Rattle.constriction_adaptive.specs.LastSymbols.{none_recent};
+ghost use Rattle.constriction_adaptive.specs.Pair.{equal_on_sides, pair_state};
+ghost use Rattle.constriction_adaptive.specs.Predicted.{predicted_entry};
+ghost use Rattle.constriction_coders.specs.Places.{IsMessageFrom};
+
+use crate::checks::{holds, same};
+use constriction::CoderError;
+use constriction::stream::model::ModelError;
+use constriction_adaptive::queue::{decode_message_of, encode_message};
+use constriction_adaptive::{
+    AdaptiveCategorical, ByContext, EncoderFrontendError, LastSymbols, Pair, Predictor, UniformBits,
+};
+use constriction_coders::queue::DecoderFrontendError;
+use either::Either;
+use std::alloc::{AllocError, Global};
+use std::process::Abort;
+
+type Classes = ByContext<AdaptiveCategorical<5, 16>, LastSymbols, 16>;
+
+type Samples = Pair<Classes, UniformBits<16>, LastSymbols, 16>;
+
+/// A class, or the bits of a number of this class.
+type Symbol = Either<usize, usize>;
+
+/// Predicts classes by the class before, and the bits of a class all alike.
+fn by_classes(alloc: Global) -> Result<Samples, ModelError>
+    ensures { IfOk result (λ made. ⟦<Samples as Predictor<16>>⟧.state made ≡ pair_state
+        (state_of (even_many 17 16 17) (none_recent 17 1))
+        (state_of (range_with_len 0 17) (none_recent 17 1)) false) }
+{
+    let before = LastSymbols::new(17, 1);
+    let classes = match AdaptiveCategorical::new_many(alloc, 17, before.contexts()) {
+        Ok(predictors) => ByContext::new(predictors, before),
+        Err(error) => return Err(error),
+    };
+    match UniformBits::new_many(alloc, 17) {
+        Ok(bits) => Ok(Pair::new(classes, bits, LastSymbols::new(17, 1))),
+        Err(_) => Err(ModelError::OutOfMemory),
+    }
+}
+
+/// What a sample differs by from the line through the two before, small if the difference is.
+fn residual(sample: u16, last: u16, before: u16) -> usize
+    ensures { result < 65536 }
+{
+    let difference = sample.wrapping_sub(last.wrapping_add(last).wrapping_sub(before));
+    if difference < 32768 {
+        2 * difference as usize
+    } else {
+        2 * (65535 - difference) as usize + 1
+    }
+}
+
+/// The sample of a residual.
+fn sample(residual: u16, last: u16, before: u16) -> u16 {
+    let half = residual / 2;
+    let difference = if residual % 2 == 0 {
+        half
+    } else {
+        65535 - half
+    };
+    last.wrapping_add(last)
+        .wrapping_sub(before)
+        .wrapping_add(difference)
+}
+
+/// How many bits a number below `2^17` has after its first one.
+fn class(number: usize) -> usize
+    ensures { result ≤ 16 }
+{
+    for bits in 0..16 {
+        if number < 2 << bits {
+            return bits;
+        }
+    }
+    16
+}
+
+/// The classes of samples, with their bits.
+fn symbols(alloc: Global, samples: &[u16]) -> Result<Vec<Symbol>, AllocError> {
+    let mut symbols = Vec::new(alloc);
+    let (mut last, mut before) = (0, 0);
+    for now in samples {
+        let number = residual(*now, last, before) + 1;
+        let class = class(number);
+        symbols.push(Either::Left(class))?;
+        symbols.push(Either::Right(number % (1 << class)))?;
+        before = last;
+        last = *now;
+    }
+    Ok(symbols)
+}
+
+/// The samples of these symbols.
+fn samples(alloc: Global, symbols: &[Symbol]) -> Result<Vec<u16>, AllocError> {
+    let mut samples = Vec::new(alloc);
+    let (mut last, mut before, mut class) = (0, 0, 0);
+    for symbol in symbols {
+        match symbol {
+            Either::Left(symbol) => class = (*symbol).min(16),
+            Either::Right(bits) => {
+                let residual = (1 << class) - 1 + (*bits).min(65535);
+                let now = sample((residual % 65536) as u16, last, before);
+                samples.push(now)?;
+                before = last;
+                last = now;
+            }
+        }
+    }
+    Ok(samples)
+}
+
+/// The words of symbols.
+fn encoded(
+    alloc: Global,
+    symbols: &[Symbol],
+) -> Result<Vec<u32>, CoderError<EncoderFrontendError, AllocError>>
+    ensures { IfOk result (λ words. IsMessageFrom
+        (predicted_entry ⟦<Samples as Predictor<16>>⟧.rows (equal_on_sides nat_eq nat_eq))
+        ⟦<Samples as Predictor<16>>⟧.next 16
+        (pair_state (state_of (even_many 17 16 17) (none_recent 17 1))
+        (state_of (range_with_len 0 17) (none_recent 17 1)) false) symbols.now
+        words.items) }
+{
+    match by_classes(alloc) {
+        Ok(mut predictor) => encode_message(alloc, &mut predictor, symbols),
+        Err(_) => Err(CoderError::Frontend(EncoderFrontendError::OutOfMemory)),
+    }
+}
+
+/// The symbols of words, which may have others after them.
+#[tactic(auto, using(constriction_adaptive::specs::lemmas::Pair::numbers_same))]
+fn decoded(alloc: Global, count: usize, words: &[u32]) -> Result<Vec<Symbol>, DecoderFrontendError>
+    ensures { IfOk result (λ answers. (symbols : List Symbol) (message more : List ℕ)
+        → length symbols ≡ count → IsMessageFrom
+        (predicted_entry ⟦<Samples as Predictor<16>>⟧.rows (equal_on_sides nat_eq nat_eq))
+        ⟦<Samples as Predictor<16>>⟧.next 16
+        (pair_state (state_of (even_many 17 16 17) (none_recent 17 1))
+        (state_of (range_with_len 0 17) (none_recent 17 1)) false) symbols message
+        → All (λ w. w < 2 ^ 32) more → words.now ≡ message ++ more → answers.items ≡ symbols) }
+{
+    match by_classes(alloc) {
+        Ok(mut predictor) => decode_message_of(alloc, &mut predictor, count, words),
+        Err(_) => Err(DecoderFrontendError::OutOfMemory),
+    }
+}
+
+/// A wave of 3,000 samples with some noise.
+fn wave(rt: &impl Abort, alloc: Global) -> Vec<u16> {
+    let mut samples = Vec::new(alloc);
+    let mut noise = 1u32;
+    for time in 0..3000u32 {
+        let within = time % 200;
+        let height = within * (200 - within);
+        let middle = if time % 400 < 200 {
+            32768 + height
+        } else {
+            32768 - height
+        };
+        noise = noise.wrapping_mul(1_664_525).wrapping_add(1_013_904_223);
+        samples
+            .push((middle + noise / 268_435_456) as u16)
+            .expect(rt, "memory");
+    }
+    samples
+}
+
+#[test]
+fn samples_of_a_wave_come_back_from_few_words(rt: HostRuntime) {
+    let alloc = rt.alloc();
+    let wave = wave(&rt, alloc);
+    let of_wave = symbols(alloc, &wave).expect(&rt, "memory");
+    let Ok(words) = encoded(alloc, &of_wave) else {
+        panic!(rt; "the samples were not encoded");
+    };
+    // All of them are 1,500 words.
+    same(&rt, words.len() < 700, true);
+    let Ok(again) = decoded(alloc, of_wave.len(), &words) else {
+        panic!(rt; "the samples were not decoded");
+    };
+    let again = samples(alloc, &again).expect(&rt, "memory");
+    holds(&rt, &again, &wave);
+}
