@@ -16,8 +16,8 @@ use std::alloc::{AllocError, Global};
 
 /// Predicts the numbers `0..2^bits`, all of the weight `2^(PRECISION - bits)`.
 ///
-/// It learns nothing, and takes no memory. In a [`Pair`](crate::Pair) with such a predictor for each
-/// class, the class says how many bits the number after it has.
+/// It learns nothing, and takes no memory. In a [`Pair`](crate::Pair) with such a predictor for
+/// each class, the class says how many bits the number after it has.
 ///
 /// It is its own model. `PRECISION` is at most 31, because a number of no bits has all quantiles,
 /// `2^PRECISION`, which has to be a word.
