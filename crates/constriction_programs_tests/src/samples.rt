@@ -14,7 +14,8 @@ use constriction::CoderError;
 use constriction::stream::model::ModelError;
 use constriction_adaptive::queue::{decode_message_of, encode_message};
 use constriction_adaptive::{
-    AdaptiveCategorical, ByContext, EncoderFrontendError, LastSymbols, Pair, Predictor, UniformBits,
+    AdaptiveCategorical, ByContext, EncoderFrontendError, LastSymbols, Pair, Predictor,
+    UniformBits, pairs_of_numbers_are_same,
 };
 use constriction_coders::queue::DecoderFrontendError;
 use either::Either;
@@ -135,7 +136,6 @@ fn encoded(
 }
 
 /// The symbols of words, which may have others after them.
-#[tactic(auto, using(constriction_adaptive::specs::lemmas::Pair::numbers_same))]
 fn decoded(alloc: Global, count: usize, words: &[u32]) -> Result<Vec<Symbol>, DecoderFrontendError>
     ensures { IfOk result (λ answers. (symbols : List Symbol) (message more : List ℕ)
         → length symbols ≡ count → IsMessageFrom
@@ -145,6 +145,7 @@ fn decoded(alloc: Global, count: usize, words: &[u32]) -> Result<Vec<Symbol>, De
         (state_of (range_with_len 0 17) (none_recent 17 1)) false) symbols message
         → All (λ w. w < 2 ^ 32) more → words.now ≡ message ++ more → answers.items ≡ symbols) }
 {
+    pairs_of_numbers_are_same::<AdaptiveCategorical<5, 16>, UniformBits<16>, 16>();
     match by_classes(alloc) {
         Ok(mut predictor) => decode_message_of(alloc, &mut predictor, count, words),
         Err(_) => Err(DecoderFrontendError::OutOfMemory),

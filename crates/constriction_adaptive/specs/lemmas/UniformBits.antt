@@ -1,6 +1,6 @@
 -- The numbers of so many bits, all as likely: their rows tile. The impls cite it.
 use Rattle.std.specs.Prelude.{◌≡◌, ℕ, ◌+◌, ◌-◌, ◌*◌, ◌/◌, ◌^◌, ◌<◌, ◌≤◌, All, [], ◌∷◌}
-use Rattle.std.proofs.Common.{suc, zero, refl, ap, sym, ◌∙◌, subst, arith}
+use Rattle.std.proofs.Common.{suc, zero, refl, subst, arith}
 use Rattle.std.proofs.Math.Pow.{pow_mono}
 use Rattle.std.proofs.lemmas.Nat.{pow_pos}
 use Rattle.constriction_model.specs.Model.{LiesWithin}
