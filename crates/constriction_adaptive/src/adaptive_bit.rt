@@ -8,7 +8,7 @@ ghost use Rattle.constriction_adaptive.specs.lemmas.Bit.{next-same};
 
 use crate::bit::Bit;
 use crate::mixing::slot_moved_by;
-use crate::predictor::Predictor;
+use crate::predictor::{Predictor, Snapshot};
 use constriction_model::EntropyModel;
 use std::alloc::{AllocError, Global};
 
@@ -77,4 +77,13 @@ impl Predictor<16> for AdaptiveBit {
     }
 
     ghost next_law = { next-same (λ weight bit. slot_after bit weight) };
+}
+
+impl Snapshot<16> for AdaptiveBit {
+    /// It takes no memory.
+    fn snapshot(&self, _alloc: Global) -> Result<Self, AllocError> {
+        Ok(AdaptiveBit {
+            current: self.current,
+        })
+    }
 }

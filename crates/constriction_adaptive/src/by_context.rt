@@ -1,6 +1,6 @@
 //! A predictor for each context.
 
-ghost use Rattle.std.specs.Prelude.{◌≡◌, ◌<◌, ℕ, IfSome, length, map, slice_get};
+ghost use Rattle.std.specs.Prelude.{◌≡◌, ◌<◌, ℕ, IfOk, IfSome, length, map, slice_get};
 ghost use Rattle.constriction_model.specs.Coding.{StandsForEqual};
 ghost use Rattle.constriction_adaptive.specs.ByContext.{ByContexts, learned_in, rows_in, state_of};
 ghost use Rattle.constriction_adaptive.specs.lemmas.ByContext.{learned-same};
@@ -121,16 +121,29 @@ where
         (StandsForEqual P.Model.stands_for P.Model.symbol_eq) P.next_law C.next_law };
 }
 
+/// Copies of predictors, each in the state of its own.
+pub(crate) fn snapshots<P, const PRECISION: usize>(
+    alloc: Global,
+    predictors: &[P],
+) -> Result<Vec<P>, AllocError>
+where
+    P: Snapshot<PRECISION> + Drop,
+    ensures { IfOk result (λ copies. map P.state copies.items ≡ map P.state predictors.now) }
+{
+    let mut copies = Vec::with_capacity(alloc, predictors.len())?;
+    for predictor in predictors {
+        copies.push_reserved(predictor.snapshot(alloc)?);
+    }
+    Ok(copies)
+}
+
 impl<P, C, const PRECISION: usize> Snapshot<PRECISION> for ByContext<P, C, PRECISION>
 where
     P: Snapshot<PRECISION> + Drop,
     C: Context<P::Model, PRECISION> + Copy,
 {
     fn snapshot(&self, alloc: Global) -> Result<Self, AllocError> {
-        let mut predictors = Vec::with_capacity(alloc, self.predictors.len())?;
-        for predictor in &self.predictors {
-            predictors.push_reserved(predictor.snapshot(alloc)?);
-        }
+        let predictors = snapshots(alloc, &self.predictors)?;
         Ok(ByContext {
             predictors,
             context: self.context,

@@ -1,6 +1,6 @@
 //! Bits by several predictors, whose predictions are mixed.
 
-ghost use Rattle.std.specs.Prelude.{◌≡◌, ◌+◌, ◌≤◌, ◌∷◌, [], ℕ, Bool, List, OnOk, length};
+ghost use Rattle.std.specs.Prelude.{◌≡◌, ◌+◌, ◌≤◌, ◌∷◌, [], ℕ, Bool, List, IfOk, OnOk, length};
 ghost use Rattle.constriction_adaptive.specs.Bit.{at_least_one, bit_rows, zero_weight};
 ghost use Rattle.constriction_adaptive.specs.ByMixing.{
   Mixture,
@@ -13,9 +13,9 @@ ghost use Rattle.constriction_adaptive.specs.lemmas.Bit.{next-same};
 
 use crate::bit::Bit;
 use crate::mixing::{adjust, mix, squash, strength};
-use crate::predictor::Predictor;
+use crate::predictor::{Predictor, Snapshot};
 use constriction_model::EntropyModel;
-use std::alloc::AllocError;
+use std::alloc::{AllocError, Global};
 
 /// Several predictors of bits: `()` is none, and `(P, R)` is one before others. So
 /// `(a, (b, (c, ())))` is three, each of a type of its own.
@@ -117,6 +117,31 @@ where
     }
 }
 
+/// Predictors of bits that can be copied together.
+pub trait BitSnapshots: BitPredictors {
+    /// Copies in the same states. It fails only if memory is refused.
+    fn snapshots(&self, alloc: Global) -> Result<Self, AllocError>
+        ensures { IfOk result (λ copies. Self.state copies ≡ Self.state self.now) };
+}
+
+impl BitSnapshots for () {
+    fn snapshots(&self, _alloc: Global) -> Result<Self, AllocError> {
+        Ok(())
+    }
+}
+
+impl<P, R> BitSnapshots for (P, R)
+where
+    P: Snapshot<16, Symbol = bool, Model = Bit> + Drop,
+    R: BitSnapshots + Drop,
+{
+    fn snapshots(&self, alloc: Global) -> Result<Self, AllocError> {
+        let first = self.0.snapshot(alloc)?;
+        let others = self.1.snapshots(alloc)?;
+        Ok((first, others))
+    }
+}
+
 /// Predicts each bit by `N` predictors, all of which learn it: what they say is mixed, and those
 /// that were right count more from then on.
 ///
@@ -204,4 +229,20 @@ where
     }
 
     ghost next_law = { next-same (mixture_after P.strengths P.next) };
+}
+
+impl<P, const N: usize> Snapshot<16> for ByMixing<P, N>
+where
+    P: BitSnapshots + Drop,
+{
+    fn snapshot(&self, alloc: Global) -> Result<Self, AllocError> {
+        let predictors = self.predictors.snapshots(alloc)?;
+        Ok(ByMixing {
+            predictors,
+            weights: self.weights,
+            strengths: self.strengths,
+            weight: self.weight,
+            current: self.current,
+        })
+    }
 }

@@ -30,7 +30,7 @@ mod uniform_bits;
 pub use self::adaptive_bit::AdaptiveBit;
 pub use self::bit::Bit;
 pub use self::by_context::{ByContext, Context};
-pub use self::by_mixing::{BitPredictors, ByMixing};
+pub use self::by_mixing::{BitPredictors, BitSnapshots, ByMixing};
 pub use self::categorical::AdaptiveCategorical;
 pub use self::contexts::{ByteContexts, HashedContexts, OrderOne};
 pub use self::decoding::{decode_adaptively, decode_next};

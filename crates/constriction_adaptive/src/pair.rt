@@ -11,13 +11,13 @@ ghost use Rattle.constriction_adaptive.specs.ByContext.{state_of};
 ghost use Rattle.constriction_adaptive.specs.Pair.{PairState, pair_state, after_side, equal_on_sides, rows_of_side, without_symbols};
 ghost use Rattle.constriction_adaptive.specs.lemmas.Pair.{after-side-same, sides-equivalence, tile-without};
 
-use crate::by_context::Context;
+use crate::by_context::{Context, snapshots};
 use crate::coder_words::{entry_in_coder_words, row_in_coder_words, rows_tile};
 use crate::last_symbols::NumberModel;
-use crate::predictor::Predictor;
+use crate::predictor::{Predictor, Snapshot};
 use constriction_model::{DecoderModel, EncoderModel, EntropyModel, Weight};
 use either::Either;
-use std::alloc::AllocError;
+use std::alloc::{AllocError, Global};
 
 /// Predicts symbols in pairs: one by `A`, which is `Left`, and then one by a `B`, which is `Right`,
 /// and so on. There is a `B` for each context, and `C` says from the left symbols that came in
@@ -212,6 +212,42 @@ where
 
     ghost next_law = { after-side-same A.next B.next C.number C.next A.Model.stands_for
         A.Model.symbol_eq B.Model.stands_for B.Model.symbol_eq A.next_law B.next_law C.next_law };
+}
+
+/// The pair of these predictors, in the state of another pair.
+fn in_state_of<A, B, C, const PRECISION: usize>(
+    pair: &Pair<A, B, C, PRECISION>,
+    left: A,
+    rights: Vec<B>,
+) -> Pair<A, B, C, PRECISION>
+where
+    A: Predictor<PRECISION>,
+    B: Predictor<PRECISION>,
+    C: Context<A::Model, PRECISION> + Copy,
+    requires left { A.state left ≡ A.state pair.now.left }
+    requires rights { map B.state rights.items ≡ map B.state pair.now.rights.items }
+    ensures { ⟦<Pair<A, B, C, PRECISION> as Predictor<PRECISION>>⟧.state result
+        ≡ ⟦<Pair<A, B, C, PRECISION> as Predictor<PRECISION>>⟧.state pair.now }
+{
+    Pair {
+        left,
+        rights,
+        context: pair.context,
+        is_right: pair.is_right,
+    }
+}
+
+impl<A, B, C, const PRECISION: usize> Snapshot<PRECISION> for Pair<A, B, C, PRECISION>
+where
+    A: Snapshot<PRECISION> + Drop,
+    B: Snapshot<PRECISION> + Drop,
+    C: Context<A::Model, PRECISION> + Copy,
+{
+    fn snapshot(&self, alloc: Global) -> Result<Self, AllocError> {
+        let left = self.left.snapshot(alloc)?;
+        let rights = snapshots(alloc, &self.rights)?;
+        Ok(in_state_of(self, left, rights))
+    }
 }
 
 /// If both sides are numbers, what comes back for a symbol of a [`Pair`] is this symbol.

@@ -9,7 +9,7 @@ ghost use Rattle.constriction_adaptive.specs.lemmas.Categorical.{number-same};
 ghost use Rattle.constriction_adaptive.specs.lemmas.UniformBits.{bits-tile, bits-within, word-precision};
 
 use crate::last_symbols::NumberModel;
-use crate::predictor::Predictor;
+use crate::predictor::{Predictor, Snapshot};
 use constriction_model::{DecoderModel, EncoderModel, EntropyModel, Weight};
 use constriction_words::WholeNumber;
 use std::alloc::{AllocError, Global};
@@ -132,4 +132,11 @@ impl<const PRECISION: usize> Predictor<PRECISION> for UniformBits<PRECISION> {
 
 impl<const PRECISION: usize> NumberModel<PRECISION> for UniformBits<PRECISION> {
     ghost same_law = { number-same };
+}
+
+impl<const PRECISION: usize> Snapshot<PRECISION> for UniformBits<PRECISION> {
+    /// It takes no memory.
+    fn snapshot(&self, _alloc: Global) -> Result<Self, AllocError> {
+        Ok(UniformBits { bits: self.bits })
+    }
 }
