@@ -11,8 +11,8 @@ invariant_of-result g c =
     let context = g.C.Context.state pair.context in
     let states = map g.B.Predictor.state pair.rights.items in
     record {
-      each = sym (length-map g.B.Predictor.state c.args.rights.items) ∙ ap length c.requires.rights
-          ∙ length-map g.B.Predictor.state pair.rights.items ∙ pair.each;
+      each = sym (length-map c.args.rights.items g.B.Predictor.state) ∙ ap length c.requires.rights
+          ∙ length-map pair.rights.items g.B.Predictor.state ∙ pair.each;
       precise = pair.precise;
       tile = subst
           (λ s. RowsTile 32 g.row.PRECISION (without_symbols (rows_of_side g.A.Predictor.rows g.B.Predictor.rows g.C.Context.number s)))
