@@ -11,8 +11,8 @@ use constriction_adaptive::numbers::{
 };
 use constriction_adaptive::queue::encode_message;
 use constriction_adaptive::{
-    AdaptiveCategorical, Bit, ByContext, EncoderFrontendError, HashedContexts, KnownModels,
-    LastSymbols, Mixer, OrderOne, Predictor, Snapshot,
+    AdaptiveBit, AdaptiveCategorical, Bit, ByContext, ByMixing, EncoderFrontendError,
+    HashedContexts, KnownModels, LastSymbols, Mixer, OrderOne, Predictor, Snapshot, UniformBits,
 };
 use constriction_coders::queue::{RangeDecoder, RangeEncoder};
 use std::alloc::Global;
@@ -89,7 +89,7 @@ fn a_number_comes_back_alone_and_one_of_more_bits_is_refused(rt: HostRuntime) {
 }
 
 /// The words of symbols by a predictor, and again by a snapshot that was taken before.
-fn twice<P, const PRECISION: usize>(
+pub(crate) fn twice<P, const PRECISION: usize>(
     alloc: Global,
     mut predictor: P,
     symbols: &[P::Symbol],
@@ -107,17 +107,20 @@ const BITS: [bool; 12] = [
     true, false, false, true, true, true, false, true, true, false, true, true,
 ];
 
-fn bits_twice(alloc: Global) -> Option<[(Vec<u32>, Vec<u32>); 3]> {
+fn bits_twice(alloc: Global) -> Option<[(Vec<u32>, Vec<u32>); 5]> {
     let contexts = HashedContexts::<2>::new(alloc).ok()?;
     let mixer = Mixer::<2>::new(alloc, [1, 0], 64, 16, 2).ok()?;
+    let two = (AdaptiveBit::new(), (OrderOne::new(alloc).ok()?, ()));
     Some([
         twice(alloc, OrderOne::new(alloc).ok()?, &BITS)?,
         twice(alloc, contexts, &BITS)?,
         twice(alloc, mixer, &BITS)?,
+        twice(alloc, AdaptiveBit::new(), &BITS)?,
+        twice(alloc, ByMixing::new(two, [32_768; 2]), &BITS)?,
     ])
 }
 
-fn numbers_twice(alloc: Global) -> Option<[(Vec<u32>, Vec<u32>); 2]> {
+fn numbers_twice(alloc: Global) -> Option<[(Vec<u32>, Vec<u32>); 3]> {
     let context = LastSymbols::new(4, 1);
     let predictors = AdaptiveCategorical::<5, 16>::new_many(alloc, 4, context.contexts()).ok()?;
     let numbers = [3, 3, 3, 0, 3, 3];
@@ -128,6 +131,7 @@ fn numbers_twice(alloc: Global) -> Option<[(Vec<u32>, Vec<u32>); 2]> {
             &numbers,
         )?,
         twice(alloc, ByContext::new(predictors, context), &numbers)?,
+        twice(alloc, UniformBits::<16>::new(2), &numbers)?,
     ])
 }
 

@@ -10,6 +10,7 @@ ghost use Rattle.constriction_adaptive.specs.Predicted.{predicted_entry};
 ghost use Rattle.constriction_coders.specs.Places.{IsMessageFrom};
 
 use crate::checks::{holds, same};
+use crate::numbers::twice;
 use constriction::CoderError;
 use constriction::stream::model::ModelError;
 use constriction_adaptive::queue::{decode_message_of, encode_message};
@@ -187,4 +188,29 @@ fn samples_of_a_wave_come_back_from_few_words(rt: HostRuntime) {
     };
     let again = samples(alloc, &again).expect(&rt, "memory");
     holds(&rt, &again, &wave);
+}
+
+/// The words of a class and its bits, and again by a snapshot.
+fn samples_twice(alloc: Global) -> Option<(Vec<u32>, Vec<u32>)> {
+    let predictor = by_classes(alloc).ok()?;
+    twice(alloc, predictor, &[Either::Left(3), Either::Right(5)])
+}
+
+#[test]
+fn a_snapshot_of_a_pair_codes_the_same_again(rt: HostRuntime) {
+    let Some((words, again)) = samples_twice(rt.alloc()) else {
+        panic!(rt; "memory was refused");
+    };
+    holds(&rt, &words, &again);
+}
+
+/// Why a class and then another class are not encoded.
+fn refusal(alloc: Global) -> Option<CoderError<EncoderFrontendError, AllocError>> {
+    encoded(alloc, &[Either::Left(3), Either::Left(3)]).err()
+}
+
+#[test]
+fn a_symbol_of_the_other_side_is_refused(rt: HostRuntime) {
+    let impossible = CoderError::Frontend(EncoderFrontendError::ImpossibleSymbol);
+    same(&rt, refusal(rt.alloc()), Some(impossible));
 }
