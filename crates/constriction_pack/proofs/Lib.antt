@@ -2,6 +2,8 @@ pub mod BlockLemmas
 pub mod ChangeLemmas
 pub mod FileLemmas
 pub mod FrameLemmas
+pub mod HalfLemmas
 pub mod HashLemmas
 pub mod ListLemmas
+pub mod PlaneLemmas
 pub mod WeightLemmas

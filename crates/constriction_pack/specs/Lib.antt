@@ -2,3 +2,4 @@ pub mod Contents
 pub mod Faults
 pub mod Frames
 pub mod Packed
+pub mod Planes

@@ -26,6 +26,7 @@ pub mod laws;
 mod leb128;
 mod level;
 mod packing;
+pub mod plane;
 mod predicted;
 mod reading;
 mod unpacking;
