@@ -1,7 +1,7 @@
 -- Entries of places, which are encoded from the last one to the first.
-use Rattle.std.proofs.Common.{◌≡◌, ℕ, zero, suc, ◌+◌, ◌<◌, List, [], ◌∷◌, ◌++◌, fold, length, get_or, take, drop, Option, None, refl, ap, sym, ◌∙◌, subst, arith}
+use Rattle.std.proofs.Common.{◌≡◌, ℕ, zero, suc, ◌+◌, ◌<◌, List, [], ◌∷◌, ◌++◌, fold, length, get_or, map, take, drop, Option, None, refl, ap, sym, ◌∙◌, subst, arith}
 use Rattle.std.specs.List.{AllZip}
-use Rattle.std.proofs.lemmas.List.{take_more}
+use Rattle.std.proofs.lemmas.List.{get_or-map, take_more}
 use Rattle.std.proofs.lemmas.List.Sums.{fold-append}
 use Rattle.constriction_model.specs.Coding.{InTurn}
 use Rattle.constriction_coders.specs.Places.{placed}
@@ -46,6 +46,11 @@ module _ {Place : Type 0} (entry : Place → Option (ℕ × ℕ)) (precision : �
   encoded-more (p ∷ ps) (f ∷ fs) (suc i) one new mid old h less is top led =
       encoded-more ps fs i one new mid old h.1 (omega (arith, less)) is top led
 
+-- an entry that is kept among others is among the entries
+pub kept-at : {K : Type 0} (kept : K → ℕ × ℕ) (all : List K) (i : ℕ) (one : K) (read : ℕ × ℕ) → i < length all → one ≡ get_or all i one
+    → read ≡ kept one → read ≡ get_or (map kept all) i read
+kept-at kept all i one read less is same = same ∙ ap kept is ∙ sym (get_or-map kept all i one read less)
+
 -- the symbols after one are encoded
 pub stacking-stops : {State Symbol C : Type 0} (next : State → Symbol → State) (Step : State × Symbol → C → C → Type 0) (first : State)
     (symbols : List Symbol) (i : ℕ) (new old : C) → i < length symbols → InTurn Step (drop (suc i) (placed next first symbols)) new old
@@ -63,6 +68,22 @@ pub placed-long : {State Symbol : Type 0} (next : State → Symbol → State) (f
 placed-long next first [] = refl
 placed-long next first (x ∷ xs) = ap suc (placed-long next (next first x) xs)
 
+-- the entries of some symbols, and the entry of the next one
+pub entries-next : {State Symbol : Type 0} (next : State → Symbol → State) (done : List Symbol) (x : Symbol) (first between : State)
+    → between ≡ fold next first done → (entry : State × Symbol → Option (ℕ × ℕ)) (precision : ℕ) (found : List (ℕ × ℕ)) (one : ℕ × ℕ)
+    (last : State) → AllZip (IsEntryAt precision entry) (placed next first done) found → IsEntryAt precision entry (between, x) one
+    → last ≡ next between x
+    → AllZip (IsEntryAt precision entry) (placed next first (done ++ x ∷ [])) (found ++ one ∷ [])
+    × (last ≡ fold next first (done ++ x ∷ []))
+entries-next {State} {Symbol} next done x first between learned entry precision found one last h here after =
+    let place : (between, x) ≡ (fold next first done, x) = ap (λ (s : State). let p : State × Symbol = (s, x) in p) learned in (
+      subst (λ (ps : List (State × Symbol)). AllZip (IsEntryAt precision entry) ps (found ++ one ∷ []))
+          (sym (placed-append next first done (x ∷ [])))
+          (entries-push entry precision (placed next first done) found (fold next first done, x) one h
+          (subst (λ (p : State × Symbol). IsEntryAt precision entry p one) place here)),
+      after ∙ ap (λ (s : State). next s x) learned ∙ sym (fold-append next first done (x ∷ [])),
+    )
+
 module _ {State Symbol : Type 0} (next : State → Symbol → State) (xs : List Symbol) (i : ℕ) (x : Symbol) (less : i < length xs)
     (is : x ≡ get_or xs i x) (first between : State) (learned : between ≡ fold next first (take i xs)) where
   more : take (i + 1) xs ≡ take i xs ++ x ∷ []
@@ -75,13 +96,9 @@ module _ {State Symbol : Type 0} (next : State → Symbol → State) (xs : List 
       → AllZip (IsEntryAt precision entry) (placed next first (take (i + 1) xs)) (found ++ one ∷ [])
       × (last ≡ fold next first (take (i + 1) xs))
   entries-take entry precision found one last h here after =
-      let place : (between, x) ≡ (fold next first (take i xs), x) = ap (λ (s : State). let p : State × Symbol = (s, x) in p) learned in
-      let places = ap (placed next first) more ∙ placed-append next first (take i xs) (x ∷ []) in (
-        subst (λ (ps : List (State × Symbol)). AllZip (IsEntryAt precision entry) ps (found ++ one ∷ [])) (sym places)
-            (entries-push entry precision (placed next first (take i xs)) found (fold next first (take i xs), x) one h
-            (subst (λ (p : State × Symbol). IsEntryAt precision entry p one) place here)),
-        after ∙ ap (λ (s : State). next s x) learned ∙ sym (fold-append next first (take i xs) (x ∷ []))
-            ∙ ap (λ (ys : List Symbol). fold next first ys) (sym more),
+      let both = entries-next next (take i xs) x first between learned entry precision found one last h here after in (
+        subst (λ (ys : List Symbol). AllZip (IsEntryAt precision entry) (placed next first ys) (found ++ one ∷ [])) (sym more) both.0,
+        both.1 ∙ sym (ap (λ (ys : List Symbol). fold next first ys) more),
       )
 
   -- or it is not, and nothing changes

@@ -1,5 +1,6 @@
 -- Symbols that are predicted: each is coded in a state, by the rows that the state predicts, and leads to the next state.
-use Rattle.std.specs.Prelude.{◌≡◌, ℕ, ◌*◌, ◌^◌, ◌<◌, ◌⊎◌, All, Bool, List, [], ◌∷◌, ◌++◌, fold, length, Option, Some, None, Result, Err}
+use Rattle.std.specs.Prelude.{◌≡◌, ℕ, ◌*◌, ◌^◌, ◌<◌, ◌⊎◌, All, Bool, List, [], ◌∷◌, ◌++◌, fold, length, Option, Some, None, Result, Ok, Err}
+use Rattle.std.specs.Iterator.{Drains, YieldsThen}
 use Rattle.constriction_model.specs.Coding.{InTurn}
 use Rattle.constriction_words.specs.declared.CoderError.{CoderError}
 use Rattle.constriction_words.specs.declared.CoderError.TheVariants.{Frontend, Backend}
@@ -112,3 +113,16 @@ module _ {State Symbol : Type 0} (next : State → Symbol → State) where
       (done : List Symbol) × (symbol : Symbol) × (after : List Symbol) × (symbols ≡ done ++ symbol ∷ after)
       × (last ≡ fold next first symbols)
       × InTurn (λ s. IsEncoded (entry_at entry s) precision) (placed next (next (fold next first done) symbol) after) new old
+
+  -- The symbols that an iterator gives were learned and then encoded; or one was given and not learned, which has no entry or memory was
+  -- refused, and nothing was encoded; or all were learned, and a write failed after those after a symbol were encoded.
+  abbrev pub StacksItems : {I E : Type 0} → (I → Option Symbol → I → Type 0) → (State → Symbol → Option (ℕ × ℕ)) → (precision : ℕ) → I
+      → Result (Unit {0}) (CoderError EncoderFrontendError E) → State → Content → State → Content → Type 0
+  StacksItems gives entry precision items (Ok _) first old last new =
+      (symbols : List Symbol) × Drains gives items symbols × AreStacked (entry_at entry) precision symbols first old last new
+  StacksItems {I} gives entry precision items (Err (Frontend error)) first old last new =
+      (done : List Symbol) × (symbol : Symbol) × (rest : I) × YieldsThen gives items done (Some symbol) rest
+      × (last ≡ fold next first done) × (error ≡ encoding.ImpossibleSymbol → entry last symbol ≡ None) × (new ≡ old)
+  StacksItems gives entry precision items (Err (Backend error)) first old last new =
+      (symbols : List Symbol) × Drains gives items symbols
+      × StackingStops entry precision symbols (Backend error) first old last new

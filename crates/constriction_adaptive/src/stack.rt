@@ -5,5 +5,8 @@
 
 mod entries;
 mod runs;
+mod stored_entry;
 
-pub use self::runs::{encode_adaptively, symbols_come_back, there_and_back};
+pub use self::runs::{
+    encode_adaptively, encode_adaptively_from_iter, symbols_come_back, there_and_back,
+};

@@ -1,4 +1,4 @@
-use Rattle.std.proofs.Common.{◌∷◌, [], Err, List, length, length-append, ap, subst, arith}
+use Rattle.std.proofs.Common.{Err, List, ap, map, subst, arith}
 use Rattle.std.specs.List.{AllZip}
 use Rattle.std.proofs.lemmas.List.{take_all}
 use Rattle.constriction_coders.specs.Places.{placed, entry_at}
@@ -9,19 +9,12 @@ use Rattle.constriction_adaptive.proofs.stack.entries.entries_of.Goals as goal
 
 pub loop-symbol-preserved : goal.loop-symbol-preserved
 loop-symbol-preserved g c =
-    let symbols = c.args.symbols.now in
-    let i = c.loop-symbol.symbol-index in
-    let found = c.loop-symbol.entries.items in
-    let entry = c.in-Ok-predict_and_learn.entry in
-    let both = entries-take g.P.Predictor.next symbols i c.symbol-item.result c.loop-symbol-test.true c.symbol-item.is
-    (g.P.Predictor.state c.args.predictor.now) _ c.loop-symbol.invariant.learned
-    (entry_at (predicted_entry g.P.Predictor.rows g.P.Model.EncoderModel.symbol_eq)) g.row.PRECISION found entry _
-    c.loop-symbol.invariant.so_far c.in-Ok-predict_and_learn.ensures.ok c.in-Ok-predict_and_learn.ensures.learned in record {
-      counted = omega (arith, ap length c.push_reserved.ensures.items, length-append found (entry ∷ []), c.loop-symbol.invariant.counted);
-      room = omega (arith, c.push_reserved.ensures.capacity, c.loop-symbol.invariant.room);
-      so_far = rw c.push_reserved.ensures.items both.0;
-      learned = both.1;
-    }
+    let kept = c.in-Ok-predict_and_keep.ensures.ok in
+    let both = entries-take g.P.Predictor.next c.args.symbols.now c.loop-symbol.symbol-index c.symbol-item.result c.loop-symbol-test.true
+    c.symbol-item.is (g.P.Predictor.state c.args.predictor.now) _ c.loop-symbol.invariant.learned
+    (entry_at (predicted_entry g.P.Predictor.rows g.P.Model.EncoderModel.symbol_eq)) g.row.PRECISION
+    (map g.K.StoredEntry.kept c.loop-symbol.entries.items) kept.0 _ c.loop-symbol.invariant.so_far kept.1 c.in-Ok-predict_and_keep.ensures.learned in
+    record { so_far = rw kept.2 both.0; learned = both.1 }
 
 pub returns-in-Err-clause-err : goal.returns-in-Err-clause-err
 returns-in-Err-clause-err g c =
@@ -34,5 +27,6 @@ pub returns-clause-ok : goal.returns-clause-ok
 returns-clause-ok g c =
     subst (λ (xs : List g.row.P-Symbol.Denot). AllZip
     (IsEntryAt g.row.PRECISION (entry_at (predicted_entry g.P.Predictor.rows g.P.Model.EncoderModel.symbol_eq)))
-    (placed g.P.Predictor.next (g.P.Predictor.state c.args.predictor.now) xs) c.loop-symbol.entries.items)
+    (placed g.P.Predictor.next (g.P.Predictor.state c.args.predictor.now) xs)
+    (map g.K.StoredEntry.kept c.loop-symbol.entries.items))
     (take_all c.loop-symbol.symbol-index c.args.symbols.now (omega (arith, c.loop-symbol-test.false))) c.loop-symbol.invariant.so_far

@@ -1,4 +1,4 @@
-use Rattle.std.proofs.Common.{◌≡◌, ◌≤◌, fold, length, take, vec_capacity}
+use Rattle.std.proofs.Common.{◌≡◌, fold, map, take}
 use Rattle.std.specs.List.{AllZip}
 use Rattle.constriction_coders.specs.Places.{placed, entry_at}
 use Rattle.constriction_adaptive.specs.Entries.{IsEntryAt}
@@ -8,10 +8,8 @@ use Rattle.constriction_adaptive.proofs.stack.entries.entries_of.Given as goal
 -- the symbols so far were learned, and there is an entry for each
 abbrev pub invariant-loop-symbol : goal.invariant-loop-symbol
 invariant-loop-symbol g l = record {
-  counted : length l.entries.items ≡ l.symbol-index;
-  room : length l.symbols ≤ vec_capacity l.entries;
   so_far : AllZip (IsEntryAt g.row.PRECISION (entry_at (predicted_entry g.P.Predictor.rows g.P.Model.EncoderModel.symbol_eq)))
-      (placed g.P.Predictor.next (g.P.Predictor.state l.initial.predictor) (take l.symbol-index l.symbols)) l.entries.items;
+      (placed g.P.Predictor.next (g.P.Predictor.state l.initial.predictor) (take l.symbol-index l.symbols)) (map g.K.StoredEntry.kept l.entries.items);
   learned : g.P.Predictor.state l.predictor
       ≡ fold g.P.Predictor.next (g.P.Predictor.state l.initial.predictor) (take l.symbol-index l.symbols);
 }
