@@ -3,9 +3,8 @@
 ghost use Rattle.std.specs.Prelude.{◌≡◌, ◌≤◌, ◌++◌, ◌∷◌, Err, List, OnErr, OnOk, IfOk, IfErr, fold, map};
 ghost use Rattle.std.specs.Iterator.{IsFinite, IsFiniteIterable};
 ghost use Rattle.std.specs.List.{AllZip};
-ghost use Rattle.constriction_model.specs.Coding.{InTurn};
+ghost use Rattle.constriction_model.specs.Coding.{InTurn, StandsForEqual};
 ghost use Rattle.constriction_model.specs.Precision.{IsPrecision};
-ghost use Rattle.constriction_model.specs.Coding.{StandsForEqual};
 ghost use Rattle.constriction_coders.specs.AnsCoder.{held_by};
 ghost use Rattle.constriction_coders.specs.Laws.{StackComesBack};
 ghost use Rattle.constriction_coders.specs.Places.{placed, entry_at};
@@ -37,9 +36,9 @@ where
 /// Predicts the symbols from the first to the last, and encodes them from the last to the first, so
 /// that decoding gives them in order.
 ///
-/// Four bytes a symbol are asked for until they are encoded, eight if `PRECISION` is above 16. If a symbol has no entry, or memory
-/// is refused, nothing is encoded, and the symbols before that one were learned. If a write fails,
-/// the symbols after one are encoded, and all were learned.
+/// Four bytes a symbol are asked for until they are encoded, eight if `PRECISION` is above 16. If a
+/// symbol has no entry, or memory is refused, nothing is encoded, and the symbols before that one
+/// were learned. If a write fails, the symbols after one are encoded, and all were learned.
 pub fn encode_adaptively<P, Backend, const PRECISION: usize>(
     alloc: Global,
     predictor: &mut P,
