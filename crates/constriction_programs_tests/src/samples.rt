@@ -2,6 +2,7 @@
 
 ghost use Rattle.std.specs.Prelude.{◌≡◌, ◌++◌, ◌^◌, ◌<◌, ◌≤◌, All, IfOk, List, false, length, nat_eq, ℕ};
 ghost use Rattle.std.specs.List.{range_with_len};
+ghost use Rattle.either.specs.declared.Either.{Either};
 ghost use Rattle.constriction_adaptive.specs.ByContext.{state_of};
 ghost use Rattle.constriction_adaptive.specs.Categorical.{even_many};
 ghost use Rattle.constriction_adaptive.specs.LastSymbols.{none_recent};
@@ -105,9 +106,9 @@ fn samples(alloc: Global, symbols: &[Symbol]) -> Result<Vec<u16>, AllocError> {
     let (mut last, mut before, mut class) = (0, 0, 0);
     for symbol in symbols {
         match symbol {
-            Either::Left(symbol) => class = (*symbol).min(16),
+            Either::Left(symbol) => class = *symbol,
             Either::Right(bits) => {
-                let residual = (1 << class) - 1 + (*bits).min(65535);
+                let residual = (1 << class.min(16)) - 1 + (*bits).min(65535);
                 let now = sample((residual % 65536) as u16, last, before);
                 samples.push(now)?;
                 before = last;
@@ -138,7 +139,7 @@ fn encoded(
 
 /// The symbols of words, which may have others after them.
 fn decoded(alloc: Global, count: usize, words: &[u32]) -> Result<Vec<Symbol>, DecoderFrontendError>
-    ensures { IfOk result (λ answers. (symbols : List Symbol) (message more : List ℕ)
+    ensures { IfOk result (λ answers. (symbols : List (Either ℕ ℕ)) (message more : List ℕ)
         → length symbols ≡ count → IsMessageFrom
         (predicted_entry ⟦<Samples as Predictor<16>>⟧.rows (equal_on_sides nat_eq nat_eq))
         ⟦<Samples as Predictor<16>>⟧.next 16
