@@ -20,17 +20,18 @@ use Rattle.constriction_pack.specs.Frames.{IsFrame, frame_of, hash_after, hash_a
 use Rattle.constriction_pack.specs.Frames.{header_of, tag_of}
 use Rattle.constriction_pack.specs.declared.kind.Kind.{Kind}
 use Rattle.constriction_pack.specs.declared.kind.Kind.TheVariants.{Stored, Repeated, Weighted}
-use Rattle.constriction_pack.specs.declared.kind.Kind.TheVariants.{FewContexts, ManyContexts}
+use Rattle.constriction_pack.specs.declared.kind.Kind.TheVariants.{FewContexts, ManyContexts, Matched}
 use Rattle.constriction_pack.proofs.BlockLemmas.{coded_once}
 use Rattle.constriction_pack.proofs.HashLemmas.{hash_after-append}
 use Rattle.constriction_pack.proofs.ListLemmas.{number_once, read_front, same_front}
+use Rattle.constriction_pack.proofs.MatchedLemmas.{matched_once}
 use Rattle.constriction_pack.proofs.WeightLemmas.{weights_once}
 
 -- ---- tags and headers
 
 abbrev kind_of : ℕ → Kind
 kind_of n = if n == 0 then Stored else (if n == 1 then Repeated else (if n == 2 then Weighted
-    else (if n == 3 then FewContexts else ManyContexts)))
+    else (if n == 3 then FewContexts else (if n == 4 then ManyContexts else Matched))))
 
 kind_back : (k : Kind) → kind_of (kind_number k) ≡ k
 kind_back Stored = refl
@@ -38,6 +39,7 @@ kind_back Repeated = refl
 kind_back Weighted = refl
 kind_back FewContexts = refl
 kind_back ManyContexts = refl
+kind_back Matched = refl
 
 -- a kind has a number of its own
 kind_once : (k j : Kind) → kind_number k ≡ kind_number j → k ≡ j
@@ -50,6 +52,7 @@ number_small Repeated = lit< tt
 number_small Weighted = lit< tt
 number_small FewContexts = lit< tt
 number_small ManyContexts = lit< tt
+number_small Matched = lit< tt
 
 -- a tag has one kind, and says whether its frame is the last one
 pub tag_once : (k j : Kind) (p q : Bool) → tag_of k p ≡ tag_of j q → (k ≡ j) × (p ≡ q)
@@ -113,6 +116,7 @@ content_short Repeated bytes content p = p.short
 content_short Weighted bytes content p = p.short
 content_short FewContexts bytes content p = p.short
 content_short ManyContexts bytes content p = p.short
+content_short Matched bytes content p = p.short
 
 -- a content of one kind is that of one block
 pub content_once : (kind : Kind) (bytes others content : List ℕ) → IsContent kind bytes content
@@ -143,6 +147,7 @@ content_once FewContexts bytes others content p q =
     predicted_once mixer_rows mixer_after few_contexts bytes others content p q
 content_once ManyContexts bytes others content p q =
     predicted_once mixer_rows mixer_after many_contexts bytes others content p q
+content_once Matched bytes others content p q = matched_once bytes others content p q
 
 -- a frame is that of one block, and what follows it is known
 pub frame_once : (before : ℕ) (block other frame another xs ys : List ℕ) (after later : Option ℕ)

@@ -5,5 +5,7 @@ pub mod FrameLemmas
 pub mod HalfLemmas
 pub mod HashLemmas
 pub mod ListLemmas
+pub mod MatchedLemmas
 pub mod PlaneLemmas
+pub mod PlanesOnce
 pub mod WeightLemmas

@@ -27,11 +27,12 @@ use Rattle.constriction_coders.specs.Bytes.{bytes_of_words}
 use Rattle.constriction_coders.specs.StackMessages.{IsStackOf}
 use Rattle.constriction_adaptive.specs.Numbers.{AreReadFrom}
 use Rattle.constriction_adaptive.specs.Mixer.{MixerState, mixer_after, mixer_begun, mixer_rows}
+use Rattle.constriction_pack.specs.Matched.{IsMatched}
 use Rattle.constriction_pack.specs.declared.kind.TheConstants.{FEW_CONTEXTS, FEW_FOLLOWERS, FEW_GROUPS, FEW_REACH}
 use Rattle.constriction_pack.specs.declared.kind.TheConstants.{MANY_CONTEXTS, MANY_FOLLOWERS, MANY_GROUPS, MANY_REACH}
 use Rattle.constriction_pack.specs.declared.kind.Kind.{Kind}
 use Rattle.constriction_pack.specs.declared.kind.Kind.TheVariants.{Stored, Repeated, Weighted}
-use Rattle.constriction_pack.specs.declared.kind.Kind.TheVariants.{FewContexts, ManyContexts}
+use Rattle.constriction_pack.specs.declared.kind.Kind.TheVariants.{FewContexts, ManyContexts, Matched}
 
 -- the number of a kind
 abbrev pub kind_number : Kind → ℕ
@@ -40,6 +41,7 @@ kind_number Repeated = 1
 kind_number Weighted = 2
 kind_number FewContexts = 3
 kind_number ManyContexts = 4
+kind_number Matched = 5
 
 -- as many times the same byte: their number in four bytes, and the byte
 pub record IsRepeated (bytes content : List ℕ) : Type 0 where
@@ -101,3 +103,4 @@ IsContent Repeated bytes content = IsRepeated bytes content
 IsContent Weighted bytes content = IsWeighted bytes content
 IsContent FewContexts bytes content = IsPredicted mixer_rows mixer_after few_contexts bytes content
 IsContent ManyContexts bytes content = IsPredicted mixer_rows mixer_after many_contexts bytes content
+IsContent Matched bytes content = IsMatched bytes content

@@ -21,6 +21,14 @@ pub enum Kind {
     FewContexts,
     /// 4: the same by a `Mixer` of six contexts.
     ManyContexts,
+    /// 5: parts to the content's end, each of at most 2^18 bytes of the block. A part has the number
+    /// of its literals and the number of its sequences, in four bytes each, and six
+    /// [planes](crate::plane): the literals; and of each [`Sequence`] how many literals it takes,
+    /// how many bytes it copies, and the three bytes of its number. The recent distances are those
+    /// after the part before.
+    ///
+    /// [`Sequence`]: constriction_matches::Sequence
+    Matched,
 }
 
 /// The parameters of the mixers, as `Mixer::new` takes them.
@@ -51,6 +59,7 @@ impl Kind {
             Kind::Weighted => 2,
             Kind::FewContexts => 3,
             Kind::ManyContexts => 4,
+            Kind::Matched => 5,
         }
     }
 
@@ -65,6 +74,7 @@ impl Kind {
             2 => Some(Kind::Weighted),
             3 => Some(Kind::FewContexts),
             4 => Some(Kind::ManyContexts),
+            5 => Some(Kind::Matched),
             _ => None,
         }
     }

@@ -5,38 +5,7 @@ ghost use Rattle.std.specs.Prelude.{IfSome, IsSome, OnOk, drop, length};
 ghost use Rattle.constriction_pack.specs.Contents.{bytes_of_weights, leb128};
 
 use crate::fault::PackError;
-use std::alloc::{AllocError, Global};
-
-/// Adds a weight, in one to three bytes.
-pub(crate) fn push_weight(content: &mut Vec<u8>, weight: u32) -> Result<(), AllocError>
-    requires { weight ≤ 2 ^ 16 }
-    ensures { OnOk result (content.new.items ≡ content.old.items ++ leb128 (weight - 1)) }
-{
-    let number = weight.saturating_sub(1);
-    if number < 128 {
-        content.push(number as u8)?;
-        return Ok(());
-    }
-    content.push((number % 128 + 128) as u8)?;
-    if number < 16_384 {
-        content.push((number / 128) as u8)?;
-        return Ok(());
-    }
-    content.push((number / 128 % 128 + 128) as u8)?;
-    content.push((number / 16_384) as u8)?;
-    Ok(())
-}
-
-/// Adds weights.
-pub(crate) fn push_weights(content: &mut Vec<u8>, weights: &[u32]) -> Result<(), AllocError>
-    requires { All (λ w. w ≤ 2 ^ 16) weights.now }
-    ensures { OnOk result (content.new.items ≡ content.old.items ++ bytes_of_weights weights.now) }
-{
-    for weight in weights {
-        push_weight(content, *weight)?;
-    }
-    Ok(())
-}
+use std::alloc::Global;
 
 /// The weight that bytes begin with, and how many bytes it has.
 fn first_weight(bytes: &[u8]) -> Option<(u32, usize)>

@@ -1,29 +1,26 @@
 //! How hard packing tries.
 
-ghost use Rattle.std.specs.Prelude.{◌^◌, ◌≤◌};
+use constriction_matches::Effort;
 
-/// Which kinds of contents [`pack`](crate::pack) tries, and how long its blocks are.
+/// Which kinds of contents [`pack`](crate::pack) tries. Its blocks have 2^23 bytes, and the last
+/// one may have fewer.
 #[derive(Debug, Clone, Copy, PartialEq, Eq)]
 pub enum Level {
-    /// Blocks of 2^20 bytes. Each byte has one weight in a block.
+    /// Matches that are found with little effort.
     Fast,
-    /// Blocks of 2^23 bytes, whose bits may be predicted by two contexts. Packing and unpacking
-    /// take 5 MiB for these.
+    /// Matches that are found with much effort.
     Default,
-    /// Blocks of 2^23 bytes, whose bits may be predicted by two contexts or by six. Packing and
+    /// The same, or bits that are predicted by two contexts or by six: what is shortest. Packing and
     /// unpacking take 36 MiB for these.
     Best,
 }
 
 impl Level {
-    /// How many bytes each block has but the last one, which may have fewer.
-    pub(crate) fn block_bytes(self) -> usize
-        ensures least { 2 ^ 20 ≤ result }
-        ensures most { result ≤ 2 ^ 23 }
-    {
+    /// How hard matches are looked for.
+    pub(crate) fn effort(self) -> Effort {
         match self {
-            Level::Fast => 1_048_576,
-            Level::Default | Level::Best => 8_388_608,
+            Level::Fast => Effort::Little,
+            Level::Default | Level::Best => Effort::Much,
         }
     }
 }

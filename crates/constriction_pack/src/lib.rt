@@ -25,12 +25,12 @@ mod kind;
 pub mod laws;
 mod leb128;
 mod level;
+mod matched;
 mod packing;
 pub mod plane;
 mod predicted;
 mod reading;
 mod unpacking;
-mod weighing;
 
 pub use crate::block::{pack_block, unpack_block};
 pub use crate::fault::PackError;

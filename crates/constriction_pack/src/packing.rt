@@ -27,7 +27,7 @@ ghost use Rattle.constriction_pack.specs.Faults.{IsRefusal};
 ghost use Rattle.constriction_pack.specs.Frames.{IsFrame};
 ghost use Rattle.constriction_pack.specs.Packed.{AreFrames, IsPacked};
 
-use crate::block::pack_block;
+use crate::block::{MOST_BYTES, pack_block};
 use crate::fault::PackError;
 use crate::frame::{FIRST_HASH, SIGNATURE, write_frame};
 use crate::kind::Kind;
@@ -93,16 +93,15 @@ fn pack_next<R: Read, W: Write>(
         × ((bytes : List ℕ) → ¬ (AreFrames (Some before) bytes written))) }
     ensures errors { IfErr result (λ error. ¬ (IsRefusal error)) }
 {
-    let most = level.block_bytes();
-    read_up_to(reader, most + 1, buffer)?;
+    read_up_to(reader, MOST_BYTES + 1, buffer)?;
     let count = buffer.len();
-    let is_last = count <= most;
-    let block = &buffer[..count.min(most)];
+    let is_last = count <= MOST_BYTES;
+    let block = &buffer[..count.min(MOST_BYTES)];
     let after = write_block(alloc, level, writer, before, is_last, block)?;
     if is_last {
         buffer.clear();
     } else {
-        buffer[0] = buffer[most];
+        buffer[0] = buffer[MOST_BYTES];
         buffer.truncate(1);
     }
     Ok(after)

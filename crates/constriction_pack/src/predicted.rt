@@ -177,11 +177,7 @@ pub(crate) fn by_contexts(
     ensures shorter { IfOk result (λ coded. IfSome coded (λ block. length block.1.items < below)) }
 {
     match level {
-        Level::Fast => Ok(None),
-        Level::Default => match by_few_contexts(alloc, bytes, below)? {
-            Some(content) => Ok(Some((Kind::FewContexts, content))),
-            None => Ok(None),
-        },
+        Level::Fast | Level::Default => Ok(None),
         Level::Best => by_either(alloc, bytes, below),
     }
 }

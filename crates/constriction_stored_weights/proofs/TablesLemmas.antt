@@ -1,10 +1,12 @@
 -- Texts of tables: their bits and their padding.
-use Rattle.std.proofs.Common.{◌≡◌, ℕ, ◌%◌, ◌^◌, ◌<◌, ◌≤◌, List, [], ◌++◌, length, replicate, take, drop, sym, ap, ◌∙◌, subst, arith, append-nil, append_assoc, length-append, length-take}
+use Rattle.std.proofs.Common.{◌≡◌, ℕ, ◌%◌, ◌^◌, ◌<◌, ◌≤◌, List, [], ◌++◌, length, replicate, take, drop, sym, ap, ◌∙◌, subst, arith, append-nil, append_assoc, length-append, length-take, refl}
+use Rattle.std.proofs.Math.Nat.{pow-le-pow_right}
 use Rattle.std.proofs.lemmas.List.{append_cancel_left, append_cancel_right, take-append-drop, take_at, length-replicate}
 use Rattle.constriction_stored_weights.specs.Bits.{bits, bits_of_bytes}
 use Rattle.constriction_stored_weights.specs.Tables.{weight_bits, IsTableText, BeginsWithTable, EndsInTable}
 use Rattle.constriction_stored_weights.specs.private.Entries.{BeginsWithWeights, EndsInWeights}
 use Rattle.constriction_stored_weights.proofs.BitsLemmas.{apart, no_bits, length-bits, bits_of_bytes-append, length-bits_of_bytes, zero_bits, none_left}
+use Rattle.constriction_stored_weights.proofs.EntriesLemmas.{same_weights}
 
 pub bits_of_table : (precision count : ℕ) (whole bytes more : List ℕ) → whole ≡ bytes ++ more → (table : BeginsWithTable precision count whole)
     → bits 0 0 ++ bits_of_bytes bytes ++ bits_of_bytes more
@@ -125,3 +127,23 @@ zeros_after precision count bytes more weights next byte left fills e table same
     ∙ ap (λ xs. xs ++ bits_of_bytes table.rest) text_is ∙ append_assoc written (replicate padding 0) (bits_of_bytes table.rest)) in
     let zeros = apart left (bits left byte) (replicate padding 0) _ _ (length-bits left byte) (length-replicate padding 0 ∙ sym as_many) both in
     none_left left byte (zeros.0 ∙ ap (λ k. replicate k 0) (sym as_many))
+
+-- bytes begin with one table of as many weights
+pub table_once : (precision count : ℕ) (bytes : List ℕ) → precision ≤ 14 → (table other : BeginsWithTable precision count bytes)
+    → (table.weights ≡ other.weights) × (table.text ≡ other.text)
+table_once precision count bytes small table other =
+    let most = pow-le-pow_right {n = 2} (omega arith) small in
+    let few = table.is_table.few in
+    let total = table.is_table.total in
+    let other-total = other.is_table.total in
+    let counted = table.counted in
+    let other-counted = other.counted in
+    let same = same_weights (length table.weights) table.weights other.weights _ _ (omega arith) few (omega arith) (omega arith) (omega arith)
+    (sym (bits_of_table precision count bytes bytes [] (sym (append-nil bytes)) table)
+    ∙ bits_of_table precision count bytes bytes [] (sym (append-nil bytes)) other) in
+    let long : length table.text ≡ length other.text =
+    same_length other.weights table.weights other.text table.text same other.is_text table.is_text in (
+      same,
+      sym (take_at table.text table.rest (length table.text) refl) ∙ ap (take (length table.text)) (sym table.bytes_are ∙ other.bytes_are)
+          ∙ take_at other.text other.rest (length table.text) (sym long),
+    )
