@@ -36,6 +36,14 @@ use constriction_io::{read_up_to, write_whole};
 use std::alloc::Global;
 use std::io::{Read, Write};
 
+/// How many bytes each block has but the last one, which may have fewer.
+fn block_bytes() -> usize
+    ensures least { 2 ^ 20 ≤ result }
+    ensures most { result ≤ 2 ^ 23 }
+{
+    MOST_BYTES
+}
+
 /// Writes the frame of a block, after frames with this hash, and answers the hash after it, or
 /// `None` after the last one.
 fn write_block<W: Write>(
@@ -93,15 +101,16 @@ fn pack_next<R: Read, W: Write>(
         × ((bytes : List ℕ) → ¬ (AreFrames (Some before) bytes written))) }
     ensures errors { IfErr result (λ error. ¬ (IsRefusal error)) }
 {
-    read_up_to(reader, MOST_BYTES + 1, buffer)?;
+    let most = block_bytes();
+    read_up_to(reader, most + 1, buffer)?;
     let count = buffer.len();
-    let is_last = count <= MOST_BYTES;
-    let block = &buffer[..count.min(MOST_BYTES)];
+    let is_last = count <= most;
+    let block = &buffer[..count.min(most)];
     let after = write_block(alloc, level, writer, before, is_last, block)?;
     if is_last {
         buffer.clear();
     } else {
-        buffer[0] = buffer[MOST_BYTES];
+        buffer[0] = buffer[most];
         buffer.truncate(1);
     }
     Ok(after)
