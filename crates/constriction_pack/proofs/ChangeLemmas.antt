@@ -1,14 +1,18 @@
 -- A file in which one byte is changed: its frames are none any more.
-use Rattle.std.proofs.Common.{◌≡◌, ◌≢◌, ℕ, ◌<◌, List, [], ◌∷◌, ◌++◌, Option, Some, length, get_or}
-use Rattle.std.proofs.Common.{take, drop, refl, ap, sym, ◌∙◌, append_assoc, arith}
+use Rattle.std.proofs.Common.{◌≡◌, ◌≢◌, ℕ, ◌^◌, ◌<◌, List, [], ◌∷◌, ◌++◌, Option, Some, length}
+use Rattle.std.proofs.Common.{get_or, take, drop, refl, ap, sym, ◌∙◌, append_assoc, arith}
 use Rattle.std.specs.Prelude.{bit_xor}
 use Rattle.std.specs.Int.{to_le_bytes, w64}
 use Rattle.std.specs.Int.Bits.{xor_self, xor_zero_l}
 use Rattle.std.proofs.lemmas.List.{append_cancel_left, length-append}
+use Rattle.constriction_pack.specs.Formats.{signature}
 use Rattle.constriction_pack.specs.Frames.{IsFrame, frame_of, hash_after, hash_after_frame}
 use Rattle.constriction_pack.specs.Frames.{header_of}
-use Rattle.constriction_pack.specs.Packed.{AreFrames, IsPacked, ended, next, signature}
-use Rattle.constriction_pack.proofs.FrameLemmas.{count_once, tag_once}
+use Rattle.constriction_pack.specs.Packed.{AreFrames, IsPacked, ended, next}
+use Rattle.constriction_pack.specs.declared.format.Format.{Format}
+use Rattle.constriction_pack.proofs.FormatLemmas.{first_hash_once, first_hash_small}
+use Rattle.constriction_pack.proofs.FormatLemmas.{length_signature, signature_once}
+use Rattle.constriction_pack.proofs.FrameLemmas.{count_once, hash_once, tag_once}
 use Rattle.constriction_pack.proofs.HashLemmas.{byte_once, checksum_once, hash_after-append}
 use Rattle.constriction_pack.proofs.HashLemmas.{hash_of_more, xor_left, xor_right}
 use Rattle.constriction_pack.proofs.ListLemmas.{same_front}
@@ -152,11 +156,11 @@ frame_changed hash t s c d xs ys before after x y small less differ e f =
 -- ---- frames
 
 -- after a frame, the change is beyond it
-next_changed : {hash : ℕ} {after : Option ℕ} {others other : List ℕ}
+next_changed : {format : Format} {hash : ℕ} {after : Option ℕ} {others other : List ℕ}
     (block frame xs before behind : List ℕ) (x y : ℕ) → x < 256 → y < 256 → y ≢ x
-    → IsFrame hash block frame after → frame ++ xs ≡ before ++ x ∷ behind
-    → AreFrames (Some hash) others other → other ≡ before ++ y ∷ behind
-    → (rest left ys : List ℕ) × AreFrames after left ys × (xs ≡ rest ++ x ∷ behind)
+    → IsFrame format hash block frame after → frame ++ xs ≡ before ++ x ∷ behind
+    → AreFrames format (Some hash) others other → other ≡ before ++ y ∷ behind
+    → (rest left ys : List ℕ) × AreFrames format after left ys × (xs ≡ rest ++ x ∷ behind)
     × (ys ≡ rest ++ y ∷ behind)
 next_changed {hash = hash} {after = after} block frame xs before behind x y small less differ n e
     (next {bytes = left} {frames = ys} {after = then} another last m g) f =
@@ -170,9 +174,10 @@ next_changed {hash = hash} {after = after} block frame xs before behind x y smal
     (one.0, left, ys, rw (← same) at g, one.3, one.4)
 
 -- frames of which one byte is changed are none
-frames_changed : {from : Option ℕ} {bytes others all other : List ℕ} (before behind : List ℕ)
-    (x y : ℕ) → x < 256 → y < 256 → y ≢ x → AreFrames from bytes all → all ≡ before ++ x ∷ behind
-    → AreFrames from others other → other ≡ before ++ y ∷ behind → ⊥
+frames_changed : {format : Format} {from : Option ℕ} {bytes others all other : List ℕ}
+    (before behind : List ℕ) (x y : ℕ) → x < 256 → y < 256 → y ≢ x
+    → AreFrames format from bytes all → all ≡ before ++ x ∷ behind
+    → AreFrames format from others other → other ≡ before ++ y ∷ behind → ⊥
 frames_changed before behind x y small less differ ended e g f =
     omega (arith, ap length e, length-append before (x ∷ behind))
 frames_changed before behind x y small less differ (next {frames = xs} block frame n rests) e g f =
@@ -181,13 +186,28 @@ frames_changed before behind x y small less differ (next {frames = xs} block fra
 
 -- ---- a file
 
+-- frames tell the hash before them
+hash_of_frames : {f g : Format} {h k : ℕ} {bytes others all other : List ℕ} → h < 2 ^ 64
+    → k < 2 ^ 64 → AreFrames f (Some h) bytes all → AreFrames g (Some k) others other
+    → all ≡ other → h ≡ k
+hash_of_frames {h = h} {k = k} small less (next {frames = xs} block frame n rests)
+    (next {frames = ys} another last m more) e =
+    hash_once h k _ _ n.content m.content xs ys small less (ap (λ zs. zs ++ xs) (sym n.laid_out) ∙ e
+    ∙ ap (λ zs. zs ++ ys) m.laid_out)
+
 -- a packed file in which one byte is changed is none
 pub file_changed : (bytes others before after : List ℕ) (x y : ℕ) → x < 256 → y < 256 → y ≢ x
     → IsPacked bytes (before ++ x ∷ after) → IsPacked others (before ++ y ∷ after) → ⊥
 file_changed bytes others before after x y small less differ p q =
-    elim (place_of signature signature p.frames q.frames before after x y refl (sym p.laid_out)
-    (sym q.laid_out)) [
-      | within rest a b u ↦ differ (sym (same_byte before rest rest x y (sym a ∙ b)))
+    let lengths = length_signature p.format ∙ sym (length_signature q.format) in
+    elim (place_of (signature p.format) (signature q.format) p.frames q.frames before after x y
+    lengths (sym p.laid_out) (sym q.laid_out)) [
+      | within rest a b u ↦
+          let hash = hash_of_frames (first_hash_small p.format) (first_hash_small q.format)
+          p.framed q.framed u in
+          let format = first_hash_once p.format q.format hash in
+          differ (sym (same_byte before rest rest x y (sym a ∙ ap signature format ∙ b)))
       | beyond rest same u v w ↦
-          frames_changed rest after x y small less differ p.framed v q.framed w
+          let format = signature_once p.format q.format [] [] (ap (λ zs. zs ++ []) same) in
+          frames_changed rest after x y small less differ p.framed v (rw (← format.0) at q.framed) w
     ]

@@ -4,32 +4,38 @@ use Rattle.std.proofs.Common.{None, Some, length, refl, ap, sym, ◌∙◌, subs
 use Rattle.std.proofs.Common.{append-nil, arith}
 use Rattle.std.specs.Io.KnownBytes.{Appends, Consumes, IsAtEnd}
 use Rattle.std.proofs.KnownBytes.{Appends-nil, Appends-trans, Consumes-nil, Consumes-trans}
-use Rattle.std.proofs.lemmas.List.{append_cancel_left, length-append}
+use Rattle.std.proofs.lemmas.List.{length-append}
 use Rattle.std.proofs.lemmas.Nat.{le-div}
 use Rattle.constriction_pack.specs.Contents.{IsContent}
+use Rattle.constriction_pack.specs.Formats.{IsAdmitted, signature}
 use Rattle.constriction_pack.specs.Frames.{first_hash, frame_of, IsFrame, tag_of}
-use Rattle.constriction_pack.specs.Packed.{AreFrames, IsPacked, ended, next, signature}
+use Rattle.constriction_pack.specs.Packed.{AreFrames, IsPacked, ended, next}
+use Rattle.constriction_pack.specs.declared.format.Format.{Format}
+use Rattle.constriction_pack.specs.declared.format.Format.TheVariants.{Cpk3}
 use Rattle.constriction_pack.specs.declared.kind.Kind.{Kind}
+use Rattle.constriction_pack.proofs.FormatLemmas.{signature_once}
 use Rattle.constriction_pack.proofs.FrameLemmas.{contents_once, frame_once, length_frame_of}
 use Rattle.constriction_pack.proofs.FrameLemmas.{tag_once}
 use Rattle.constriction_pack.proofs.ListLemmas.{gave}
 
 -- what is left after the next frame
-next_left : {before : ℕ} {bytes file : List ℕ} {after : Option ℕ} (block frame more : List ℕ)
-    → AreFrames (Some before) bytes file → IsFrame before block frame after → file ≡ frame ++ more
-    → (rest : List ℕ) × (block ++ rest ≡ bytes) × AreFrames after rest more
+next_left : {format : Format} {before : ℕ} {bytes file : List ℕ} {after : Option ℕ}
+    (block frame more : List ℕ) → AreFrames format (Some before) bytes file
+    → IsFrame format before block frame after → file ≡ frame ++ more
+    → (rest : List ℕ) × (block ++ rest ≡ bytes) × AreFrames format after rest more
 next_left block frame more (next {bytes = rest} {frames = frames} other another n f) q e =
-    let is = frame_once _ other block another frame frames more _ _ n q e in
+    let is = frame_once _ _ other block another frame frames more _ _ n q e in
     (rest, ap (λ xs. xs ++ rest) (sym is.0), rw (is.1, is.2) at f)
 
 -- nothing follows the last frame
-pub at_end : {bytes frames : List ℕ} → AreFrames None bytes frames → frames ≡ []
+pub at_end : {format : Format} {bytes frames : List ℕ} → AreFrames format None bytes frames
+    → frames ≡ []
 at_end ended = refl
 
 -- ---- one content
 
-framed_once : {from : Option ℕ} {bytes others frames : List ℕ} → AreFrames from bytes frames
-    → AreFrames from others frames → bytes ≡ others
+framed_once : {format : Format} {from : Option ℕ} {bytes others frames : List ℕ}
+    → AreFrames format from bytes frames → AreFrames format from others frames → bytes ≡ others
 framed_once ended ended = refl
 framed_once (next block frame n f) q =
     let here = next_left block frame _ q n refl in
@@ -39,34 +45,38 @@ framed_once (next block frame n f) q =
 pub one_content : (bytes others packed : List ℕ) → IsPacked bytes packed → IsPacked others packed
     → bytes ≡ others
 one_content bytes others packed p q =
-    let same = append_cancel_left signature p.frames q.frames (sym p.laid_out ∙ q.laid_out) in
-    framed_once p.framed (rw (← same) at q.framed)
+    let same = signature_once p.format q.format p.frames q.frames (sym p.laid_out ∙ q.laid_out) in
+    framed_once p.framed (rw (← same.0, ← same.1) at q.framed)
 
-framed_end : {from : Option ℕ} {bytes others frames : List ℕ} (more : List ℕ)
-    → AreFrames from bytes frames → AreFrames from others (frames ++ more) → more ≡ []
+framed_end : {format : Format} {from : Option ℕ} {bytes others frames : List ℕ} (more : List ℕ)
+    → AreFrames format from bytes frames → AreFrames format from others (frames ++ more)
+    → more ≡ []
 framed_end more ended q = at_end q
 framed_end more (next {frames = rest} block frame n f) q =
     framed_end more f (next_left block frame (rest ++ more) q n (append_assoc frame rest more)).2
 
--- what stands behind the signature of a file that begins with another
-behind : (bytes written lost packed : List ℕ) → (p : IsPacked bytes written)
-    → written ++ lost ≡ signature ++ packed → p.frames ++ lost ≡ packed
-behind bytes written lost packed p e =
-    append_cancel_left signature (p.frames ++ lost) packed
-    (sym (append_assoc signature p.frames lost) ∙ ap (λ xs. xs ++ lost) (sym p.laid_out) ∙ e)
+-- the format of a file that begins with another, and what stands behind its signature
+behind : (format : Format) (bytes written lost packed : List ℕ) → (p : IsPacked bytes written)
+    → written ++ lost ≡ signature format ++ packed
+    → (p.format ≡ format) × (p.frames ++ lost ≡ packed)
+behind format bytes written lost packed p e =
+    signature_once p.format format (p.frames ++ lost) packed
+    (sym (append_assoc (signature p.format) p.frames lost) ∙ ap (λ xs. xs ++ lost) (sym p.laid_out)
+    ∙ e)
 
 -- a packed file is not the beginning of another
 pub none_follows : (bytes others packed more : List ℕ) → IsPacked bytes packed
     → IsPacked others (packed ++ more) → more ≡ []
 none_follows bytes others packed more p q =
-    framed_end more p.framed (rw (← behind bytes packed more q.frames p q.laid_out) at q.framed)
+    let same = behind q.format bytes packed more q.frames p q.laid_out in
+    framed_end more p.framed (rw (← same.0, ← same.1) at q.framed)
 
 -- ---- what a failure leaves
 
 -- a part of a frame is no frames
-no_frames : (before tag : ℕ) (content part lost bytes : List ℕ)
+no_frames : {format : Format} (before tag : ℕ) (content part lost bytes : List ℕ)
     → part ++ lost ≡ frame_of before tag content → 0 < length lost
-    → AreFrames (Some before) bytes part → ⊥
+    → AreFrames format (Some before) bytes part → ⊥
 no_frames before tag content part lost bytes e some (next {frames = more} block frame n f) =
     let all : frame_of before (tag_of n.kind n.is_last) n.content ++ (more ++ lost)
     ≡ frame_of before tag content ++ [] =
@@ -76,59 +86,63 @@ no_frames before tag content part lost bytes e some (next {frames = more} block 
     omega (arith, some, ap length same.2, length-append more lost)
 
 -- nor are no bytes
-pub nothing_framed : (before : ℕ) (bytes : List ℕ) → AreFrames (Some before) bytes [] → ⊥
+pub nothing_framed : {format : Format} (before : ℕ) (bytes : List ℕ)
+    → AreFrames format (Some before) bytes [] → ⊥
 nothing_framed before bytes =
     no_frames before 0 [] [] (frame_of before 0 []) bytes refl
     (omega (arith, length_frame_of before 0 []))
 
 -- so where nothing of a frame was written, or a part of it
-pub none_written : (d : Option (List ℕ)) (before : ℕ) → (written : List ℕ) × Appends d d written
-    × ((bytes : List ℕ) → ¬ (AreFrames (Some before) bytes written))
+pub none_written : {format : Format} (d : Option (List ℕ)) (before : ℕ) → (written : List ℕ)
+    × Appends d d written × ((bytes : List ℕ) → ¬ (AreFrames format (Some before) bytes written))
 none_written d before = ([], Appends-nil d, nothing_framed before)
 
 -- a frame that was written in part is no frame
-pub part_written : (d d' : Option (List ℕ)) (before tag : ℕ) (content : List ℕ)
+pub part_written : {format : Format} (d d' : Option (List ℕ)) (before tag : ℕ) (content : List ℕ)
     → (written lost : List ℕ) × Appends d d' written
     × (written ++ lost ≡ frame_of before tag content) × (0 < length lost)
     → (written : List ℕ) × Appends d d' written
-    × ((bytes : List ℕ) → ¬ (AreFrames (Some before) bytes written))
+    × ((bytes : List ℕ) → ¬ (AreFrames format (Some before) bytes written))
 part_written d d' before tag content p =
     (p.0, p.2, λ bytes. no_frames before tag content p.0 p.1 bytes p.3 p.4)
 
 -- a part of the signature is no packed file
-signature_cut : (written lost bytes : List ℕ) → written ++ lost ≡ signature → 0 < length lost
-    → IsPacked bytes written → ⊥
-signature_cut written lost bytes e some file =
-    let none = behind bytes written lost [] file (e ∙ sym (append-nil signature)) in
-    omega (arith, some, ap length none, length-append file.frames lost)
+signature_cut : (format : Format) (written lost bytes : List ℕ)
+    → written ++ lost ≡ signature format → 0 < length lost → IsPacked bytes written → ⊥
+signature_cut format written lost bytes e some file =
+    let none = behind format bytes written lost [] file (e ∙ sym (append-nil (signature format))) in
+    omega (arith, some, ap length none.1, length-append file.frames lost)
 
 -- a signature that was written in part begins no packed file
-pub signature_written : (c d : Option (List ℕ)) → (written lost : List ℕ) × Appends c d written
-    × (written ++ lost ≡ signature) × (0 < length lost)
+pub signature_written : (format : Format) (c d : Option (List ℕ))
+    → (written lost : List ℕ) × Appends c d written × (written ++ lost ≡ signature format)
+    × (0 < length lost)
     → (written : List ℕ) × Appends c d written × ((bytes : List ℕ) → ¬ (IsPacked bytes written))
-signature_written c d p = (p.0, p.2, λ bytes. signature_cut p.0 p.1 bytes p.3 p.4)
+signature_written format c d p = (p.0, p.2, λ bytes. signature_cut format p.0 p.1 bytes p.3 p.4)
 
 -- ---- the beginning of a packed file
 
 -- the first frames of a file up to a hash, and the bytes of their blocks
-pub data Begins : Option ℕ → List ℕ → List ℕ → Type 0 where
-  begun : Begins (Some first_hash) [] []
+pub data Begins (format : Format) : Option ℕ → List ℕ → List ℕ → Type 0 where
+  begun : Begins format (Some (first_hash format)) [] []
   further : {before : ℕ} {after : Option ℕ} {bytes frames : List ℕ} (block frame : List ℕ)
-      → Begins (Some before) bytes frames → IsFrame before block frame after
-      → Begins after (bytes ++ block) (frames ++ frame)
+      → Begins format (Some before) bytes frames → IsFrame format before block frame after
+      → Begins format after (bytes ++ block) (frames ++ frame)
 
 -- with the frames to the last one they are all
-whole : {to : Option ℕ} {bytes frames more rest : List ℕ} → Begins to bytes frames
-    → AreFrames to more rest → AreFrames (Some first_hash) (bytes ++ more) (frames ++ rest)
+whole : {format : Format} {to : Option ℕ} {bytes frames more rest : List ℕ}
+    → Begins format to bytes frames → AreFrames format to more rest
+    → AreFrames format (Some (first_hash format)) (bytes ++ more) (frames ++ rest)
 whole begun f = f
 whole (further {bytes = bytes} {frames = frames} block frame s n) f =
     rw (append_assoc bytes block, append_assoc frames frame) (whole s (next block frame n f))
 
 -- with the last frame they make a file
-last_one : {before : ℕ} {bytes frames : List ℕ} (block frame : List ℕ)
-    → Begins (Some before) bytes frames → IsFrame before block frame None
-    → IsPacked (bytes ++ block) (signature ++ (frames ++ frame))
-last_one {bytes = bytes} {frames = frames} block frame s n = record {
+last_one : {format : Format} {before : ℕ} {bytes frames : List ℕ} (block frame : List ℕ)
+    → Begins format (Some before) bytes frames → IsFrame format before block frame None
+    → IsPacked (bytes ++ block) (signature format ++ (frames ++ frame))
+last_one {format = format} {bytes = bytes} {frames = frames} block frame s n = record {
+  format = format;
   frames = frames ++ frame;
   framed = rw (append-nil (bytes ++ block), append-nil (frames ++ frame))
       at (whole (further {after = None} block frame s n) ended);
@@ -136,9 +150,10 @@ last_one {bytes = bytes} {frames = frames} block frame s n = record {
 }
 
 -- what is left of frames
-left : {to : Option ℕ} {bytes frames : List ℕ} (all more : List ℕ) → Begins to bytes frames
-    → AreFrames (Some first_hash) all (frames ++ more)
-    → (rest : List ℕ) × (bytes ++ rest ≡ all) × AreFrames to rest more
+left : {format : Format} {to : Option ℕ} {bytes frames : List ℕ} (all more : List ℕ)
+    → Begins format to bytes frames
+    → AreFrames format (Some (first_hash format)) all (frames ++ more)
+    → (rest : List ℕ) × (bytes ++ rest ≡ all) × AreFrames format to rest more
 left all more begun f = (all, refl, f)
 left all more (further {bytes = bytes} {frames = frames} block frame s n) f =
     let before = left all (frame ++ more) s (rw (append_assoc frames frame more) at f) in
@@ -154,17 +169,17 @@ pub record IsUnderWay (a c : Option (List ℕ)) (before : ℕ) (buffer : List �
     (b d : Option (List ℕ)) : Type 0 where
   pub bytes : List ℕ
   pub frames : List ℕ
-  pub begins : Begins (Some before) bytes frames
+  pub begins : Begins Cpk3 (Some before) bytes frames
   pub read : Consumes a b (bytes ++ buffer)
-  pub written : Appends c d (signature ++ frames)
+  pub written : Appends c d (signature Cpk3 ++ frames)
   pub count : ℕ
   pub long : count * 2 ^ 20 ≤ length bytes
   pub grown : length frames ≤ length bytes + 13 * count
   pub few : length buffer ≤ 1
 
 -- the signature was written
-pub under_way_begun : (a c d : Option (List ℕ)) (buffer : List ℕ) → Appends c d signature
-    → buffer ≡ [] → IsUnderWay a c first_hash buffer a d
+pub under_way_begun : (a c d : Option (List ℕ)) (buffer : List ℕ) → Appends c d (signature Cpk3)
+    → buffer ≡ [] → IsUnderWay a c (first_hash Cpk3) buffer a d
 under_way_begun a c d buffer written none = record {
   bytes = [];
   frames = [];
@@ -188,16 +203,17 @@ moved a b b' bytes buffer read block buffer' p q e =
     subst (Consumes a b') same (Consumes-trans a b b' (bytes ++ buffer) read p q)
 
 -- one frame more was written
-appended : (c d d' : Option (List ℕ)) (frames frame : List ℕ) → Appends c d (signature ++ frames)
-    → Appends d d' frame → Appends c d' (signature ++ (frames ++ frame))
+appended : (c d d' : Option (List ℕ)) (frames frame : List ℕ)
+    → Appends c d (signature Cpk3 ++ frames) → Appends d d' frame
+    → Appends c d' (signature Cpk3 ++ (frames ++ frame))
 appended c d d' frames frame written more =
-    subst (Appends c d') (append_assoc signature frames frame)
-    (Appends-trans c d d' (signature ++ frames) frame written more)
+    subst (Appends c d') (append_assoc (signature Cpk3) frames frame)
+    (Appends-trans c d d' (signature Cpk3 ++ frames) frame written more)
 
 -- one frame more
 pub under_way_more : {a c b b' d d' : Option (List ℕ)} {before : ℕ} {buffer : List ℕ} (after : ℕ)
     (buffer' read block frame : List ℕ) → IsUnderWay a c before buffer b d → Consumes b b' read
-    → buffer ++ read ≡ block ++ buffer' → IsFrame before block frame (Some after)
+    → buffer ++ read ≡ block ++ buffer' → IsFrame Cpk3 before block frame (Some after)
     → Appends d d' frame → length frame ≤ length block + 13 → 2 ^ 20 ≤ length block
     → length buffer' ≤ 1 → IsUnderWay a c after buffer' b' d'
 under_way_more after buffer' read block frame p q e n w short long few = record {
@@ -216,8 +232,8 @@ under_way_more after buffer' read block frame p q e n w short long few = record 
 pub under_way_done : {a c b d : Option (List ℕ)} {before : ℕ} {buffer : List ℕ}
     (b' d' : Option (List ℕ)) (buffer' read block frame : List ℕ)
     → IsUnderWay a c before buffer b d → Consumes b b' read → buffer ++ read ≡ block ++ buffer'
-    → IsFrame before block frame None → Appends d d' frame → length frame ≤ length block + 13
-    → buffer' ≡ []
+    → IsFrame Cpk3 before block frame None → Appends d d' frame
+    → length frame ≤ length block + 13 → buffer' ≡ []
     → (bytes packed : List ℕ) × Consumes a b' bytes × Appends c d' packed × IsPacked bytes packed
     × (length packed ≤ length bytes + 24 + 16 * (length bytes / 2 ^ 20))
 under_way_done b' d' buffer' read block frame p q e n w short none =
@@ -226,7 +242,7 @@ under_way_done b' d' buffer' read block frame p q e n w short none =
     let count : p.count ≤ length bytes / 2 ^ 20 =
     le-div p.count (length bytes) (2 ^ 20) (omega arith) (omega (arith, p.long, long)) in (
       bytes,
-      signature ++ (p.frames ++ frame),
+      signature Cpk3 ++ (p.frames ++ frame),
       subst (Consumes _ _) (ap (λ xs. bytes ++ xs) none ∙ append-nil bytes)
           (moved _ _ _ p.bytes _ read block buffer' p.read q e),
       appended _ _ _ p.frames frame p.written w,
@@ -237,92 +253,101 @@ under_way_done b' d' buffer' read block frame p q e n w short none =
 -- what ends no frames does not make it whole
 pub unended : {a c b d : Option (List ℕ)} {before : ℕ} {buffer : List ℕ} (d' : Option (List ℕ))
     (part : List ℕ) → IsUnderWay a c before buffer b d → Appends d d' part
-    → ((bytes : List ℕ) → ¬ (AreFrames (Some before) bytes part))
+    → ((bytes : List ℕ) → ¬ (AreFrames Cpk3 (Some before) bytes part))
     → (written : List ℕ) × Appends c d' written × ((bytes : List ℕ) → ¬ (IsPacked bytes written))
 unended d' part p w none = (
-  signature ++ (p.frames ++ part),
+  signature Cpk3 ++ (p.frames ++ part),
   appended _ _ _ p.frames part p.written w,
   λ bytes file.
-      let same = append_cancel_left signature file.frames (p.frames ++ part) (sym file.laid_out) in
-      let rest = left bytes part p.begins (rw same at file.framed) in none rest.0 rest.2,
+      let same = signature_once file.format Cpk3 file.frames (p.frames ++ part)
+      (sym file.laid_out) in
+      let rest = left bytes part p.begins (rw (same.0, same.1) at file.framed) in
+      none rest.0 rest.2,
 )
 
 -- what was read from a to b and written from c to d of a file that is unpacked: frames and their
 -- blocks
-pub record IsReadSoFar (a c : Option (List ℕ)) (limit before left : ℕ)
+pub record IsReadSoFar (format : Format) (a c : Option (List ℕ)) (limit before left : ℕ)
     (b d : Option (List ℕ)) : Type 0 where
   pub bytes : List ℕ
   pub frames : List ℕ
-  pub begins : Begins (Some before) bytes frames
-  pub read : Consumes a b (signature ++ frames)
+  pub begins : Begins format (Some before) bytes frames
+  pub read : Consumes a b (signature format ++ frames)
   pub written : Appends c d bytes
   pub counted : length bytes + left ≡ limit
 
 -- the signature was read
-pub read_begun : (a c b : Option (List ℕ)) (limit : ℕ) → Consumes a b signature
-    → IsReadSoFar a c limit first_hash limit b c
-read_begun a c b limit read = record {
+pub read_begun : (format : Format) (a c b : Option (List ℕ)) (limit : ℕ)
+    → Consumes a b (signature format)
+    → IsReadSoFar format a c limit (first_hash format) limit b c
+read_begun format a c b limit read = record {
   bytes = [];
   frames = [];
   begins = begun;
-  read = read;
+  read = rw append-nil read;
   written = Appends-nil c;
   counted = omega arith;
 }
 
 -- one frame more was read
-consumed : (a b b' : Option (List ℕ)) (frames frame : List ℕ) → Consumes a b (signature ++ frames)
-    → Consumes b b' frame → Consumes a b' (signature ++ (frames ++ frame))
-consumed a b b' frames frame read more =
-    subst (Consumes a b') (append_assoc signature frames frame)
-    (Consumes-trans a b b' (signature ++ frames) frame read more)
+consumed : (format : Format) (a b b' : Option (List ℕ)) (frames frame : List ℕ)
+    → Consumes a b (signature format ++ frames) → Consumes b b' frame
+    → Consumes a b' (signature format ++ (frames ++ frame))
+consumed format a b b' frames frame read more =
+    subst (Consumes a b') (append_assoc (signature format) frames frame)
+    (Consumes-trans a b b' (signature format ++ frames) frame read more)
 
 -- one frame more
-pub read_more : {a c b b' d d' : Option (List ℕ)} {limit before left : ℕ} (after rest : ℕ)
-    (block frame : List ℕ) → IsReadSoFar a c limit before left b d
-    → IsFrame before block frame (Some after) → Consumes b b' frame → Appends d d' block
-    → length block + rest ≡ left → IsReadSoFar a c limit after rest b' d'
+pub read_more : {format : Format} {a c b b' d d' : Option (List ℕ)} {limit before left : ℕ}
+    (after rest : ℕ) (block frame : List ℕ) → IsReadSoFar format a c limit before left b d
+    → IsFrame format before block frame (Some after) → Consumes b b' frame → Appends d d' block
+    → length block + rest ≡ left → IsReadSoFar format a c limit after rest b' d'
 read_more after rest block frame p n r w e = record {
   bytes = p.bytes ++ block;
   frames = p.frames ++ frame;
   begins = further block frame p.begins n;
-  read = consumed _ _ _ p.frames frame p.read r;
+  read = consumed _ _ _ _ p.frames frame p.read r;
   written = Appends-trans _ _ _ p.bytes block p.written w;
   counted = omega (arith, p.counted, e, length-append p.bytes block);
 }
 
 -- what is left of a known file, of which the end may be lost
-pub resumed : {a c b d : Option (List ℕ)} {limit before left : ℕ} (bytes packed lost : List ℕ)
-    → (p : IsReadSoFar a c limit before left b d) → a ≡ Some packed
-    → IsPacked bytes (packed ++ lost) → (rest more : List ℕ) × (p.bytes ++ rest ≡ bytes)
-    × (b ≡ Some more) × AreFrames (Some before) rest (more ++ lost)
-resumed bytes packed lost p known file =
-    let given = gave _ _ packed (signature ++ p.frames) known p.read in
-    let split : packed ++ lost ≡ signature ++ (p.frames ++ (given.0 ++ lost)) =
-    ap (λ xs. xs ++ lost) given.2 ∙ append_assoc (signature ++ p.frames) given.0 lost
-    ∙ append_assoc signature p.frames (given.0 ++ lost) in
-    let same = append_cancel_left signature _ file.frames (sym split ∙ file.laid_out) in
-    let here = left bytes (given.0 ++ lost) p.begins (rw (← same) at file.framed) in
+pub resumed : {format : Format} {a c b d : Option (List ℕ)} {limit before left : ℕ}
+    (bytes packed lost : List ℕ) → (p : IsReadSoFar format a c limit before left b d)
+    → a ≡ Some packed → IsPacked bytes (packed ++ lost) → (rest more : List ℕ)
+    × (p.bytes ++ rest ≡ bytes) × (b ≡ Some more)
+    × AreFrames format (Some before) rest (more ++ lost)
+resumed {format = format} bytes packed lost p known file =
+    let start = signature format in
+    let given = gave _ _ packed (start ++ p.frames) known p.read in
+    let split : packed ++ lost ≡ start ++ (p.frames ++ (given.0 ++ lost)) =
+    ap (λ xs. xs ++ lost) given.2 ∙ append_assoc (start ++ p.frames) given.0 lost
+    ∙ append_assoc start p.frames (given.0 ++ lost) in
+    let same = signature_once format file.format _ file.frames (sym split ∙ file.laid_out) in
+    let here = left bytes (given.0 ++ lost) p.begins
+    (rw (← same.0, ← same.1) at file.framed) in
     (here.0, given.0, here.1, given.1, here.2)
 
 -- the last frame makes the file whole
-pub read_done : {a c b d : Option (List ℕ)} {limit before left : ℕ} (b' d' : Option (List ℕ))
-    (block frame : List ℕ) → IsReadSoFar a c limit before left b d
-    → IsFrame before block frame None → Consumes b b' frame → Appends d d' block
+pub read_done : {format : Format} {a c b d : Option (List ℕ)} {limit before left : ℕ}
+    (b' d' : Option (List ℕ)) (block frame : List ℕ)
+    → IsReadSoFar format a c limit before left b d → IsFrame format before block frame None
+    → Consumes b b' frame → Appends d d' block
     → (bytes packed : List ℕ) × Consumes a b' packed × Appends c d' bytes × IsPacked bytes packed
-read_done b' d' block frame p n r w = (
+read_done {format = format} b' d' block frame p n r w = (
   p.bytes ++ block,
-  signature ++ (p.frames ++ frame),
-  consumed _ _ _ p.frames frame p.read r,
+  signature format ++ (p.frames ++ frame),
+  consumed _ _ _ _ p.frames frame p.read r,
   Appends-trans _ _ _ p.bytes block p.written w,
   last_one block frame p.begins n,
 )
 
 -- nothing was lost of a known file whose last frame was read
-pub read_cut : {a c b d : Option (List ℕ)} {limit before left : ℕ} (b' : Option (List ℕ))
-    (block frame bytes packed lost : List ℕ) → IsReadSoFar a c limit before left b d
-    → IsFrame before block frame None → Consumes b b' frame → IsAtEnd b' → a ≡ Some packed
-    → IsPacked bytes (packed ++ lost) → lost ≡ []
+pub read_cut : {format : Format} {a c b d : Option (List ℕ)} {limit before left : ℕ}
+    (b' : Option (List ℕ)) (block frame bytes packed lost : List ℕ)
+    → IsReadSoFar format a c limit before left b d → IsFrame format before block frame None
+    → Consumes b b' frame → IsAtEnd b' → a ≡ Some packed → IsPacked bytes (packed ++ lost)
+    → lost ≡ []
 read_cut b' block frame bytes packed lost p n r end known file =
     let rest = resumed bytes packed lost p known file in
     let given = gave _ b' rest.1 frame rest.3 r in
@@ -333,24 +358,26 @@ read_cut b' block frame bytes packed lost p n r end known file =
 
 -- ---- what stands where frames are known
 
--- the content that was read is that of a block
-pub content_stands : (before : ℕ) (bytes frames : List ℕ) (a b : Option (List ℕ)) (kind : Kind)
-    (is_last : Bool) (content frame : List ℕ) → AreFrames (Some before) bytes frames
-    → a ≡ Some frames → Consumes a b frame → frame ≡ frame_of before (tag_of kind is_last) content
-    → (block : List ℕ) × IsContent kind block content
+-- the content that was read is that of a block, and the format has it
+pub content_stands : {format : Format} (before : ℕ) (bytes frames : List ℕ)
+    (a b : Option (List ℕ)) (kind : Kind) (is_last : Bool) (content frame : List ℕ)
+    → AreFrames format (Some before) bytes frames → a ≡ Some frames → Consumes a b frame
+    → frame ≡ frame_of before (tag_of kind is_last) content
+    → (block : List ℕ) × IsContent kind block content × IsAdmitted format kind block content
 content_stands before bytes frames a b kind is_last content frame
     (next {frames = rest} block first n f) known h is =
     let given = gave a b (first ++ rest) frame known h in
     let same = contents_once before _ _ n.content content rest given.0
     (ap (λ xs. xs ++ rest) (sym n.laid_out) ∙ given.2 ∙ ap (λ xs. xs ++ given.0) is) in
     let tag = tag_once n.kind kind n.is_last is_last same.0 in
-    (block, rw (tag.0, same.1) at n.of_kind)
+    (block, rw (tag.0, same.1) at n.of_kind, rw (tag.0, same.1) at n.admitted)
 
 -- what is left where a frame was read
-pub read_stands : (before : ℕ) (bytes frames block frame : List ℕ) (after : Option ℕ)
-    (a b : Option (List ℕ)) → AreFrames (Some before) bytes frames → a ≡ Some frames
-    → IsFrame before block frame after → Consumes a b frame
-    → (rest more : List ℕ) × (block ++ rest ≡ bytes) × (b ≡ Some more) × AreFrames after rest more
+pub read_stands : {format : Format} (before : ℕ) (bytes frames block frame : List ℕ)
+    (after : Option ℕ) (a b : Option (List ℕ)) → AreFrames format (Some before) bytes frames
+    → a ≡ Some frames → IsFrame format before block frame after → Consumes a b frame
+    → (rest more : List ℕ) × (block ++ rest ≡ bytes) × (b ≡ Some more)
+    × AreFrames format after rest more
 read_stands before bytes frames block frame after a b framed known n h =
     let given = gave a b frames frame known h in
     let here = next_left block frame given.0 framed n given.2 in

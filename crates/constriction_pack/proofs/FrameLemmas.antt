@@ -16,13 +16,15 @@ use Rattle.constriction_coders.specs.lemmas.Bytes.{bytes_once}
 use Rattle.constriction_pack.specs.Contents.{IsCoded, IsContent, IsPredicted, IsWeighted}
 use Rattle.constriction_pack.specs.Contents.{bytes_of_weights, few_contexts, many_contexts}
 use Rattle.constriction_pack.specs.Contents.{kind_number}
+use Rattle.constriction_pack.specs.declared.format.Format.{Format}
 use Rattle.constriction_pack.specs.Frames.{IsFrame, frame_of, hash_after, hash_after_frame}
 use Rattle.constriction_pack.specs.Frames.{header_of, tag_of}
 use Rattle.constriction_pack.specs.declared.kind.Kind.{Kind}
 use Rattle.constriction_pack.specs.declared.kind.Kind.TheVariants.{Stored, Repeated, Weighted}
 use Rattle.constriction_pack.specs.declared.kind.Kind.TheVariants.{FewContexts, ManyContexts, Matched}
 use Rattle.constriction_pack.proofs.BlockLemmas.{coded_once}
-use Rattle.constriction_pack.proofs.HashLemmas.{hash_after-append}
+use Rattle.constriction_pack.proofs.HashLemmas.{checksum_once, hash_after-append, hash_before}
+use Rattle.constriction_pack.proofs.HashLemmas.{hash_of_more}
 use Rattle.constriction_pack.proofs.ListLemmas.{number_once, read_front, same_front}
 use Rattle.constriction_pack.proofs.MatchedLemmas.{matched_once}
 use Rattle.constriction_pack.proofs.WeightLemmas.{weights_once}
@@ -90,6 +92,26 @@ contents_once before t s c d xs ys e =
     (sym (append_assoc c p xs) ∙ head.2 ∙ append_assoc d q ys) head.1 in
     (head.0, bodies.0, ap (drop 8) bodies.1)
 
+-- the hash before a frame, whatever follows it
+pub hash_once : (h k t s : ℕ) (c d xs ys : List ℕ) → h < 2 ^ 64 → k < 2 ^ 64
+    → frame_of h t c ++ xs ≡ frame_of k s d ++ ys → h ≡ k
+unfolding frame_of hash_after_frame
+hash_once h k t s c d xs ys small less e =
+    let p = to_le_bytes w64 (hash_after_frame h t c) in
+    let q = to_le_bytes w64 (hash_after_frame k s d) in
+    let head = header_once t s (length c) (length d) ((c ++ p) ++ xs) ((d ++ q) ++ ys) e in
+    let bodies = same_front c d (p ++ xs) (q ++ ys)
+    (sym (append_assoc c p xs) ∙ head.2 ∙ append_assoc d q ys) head.1 in
+    let front = header_of t (length c) ++ c in
+    let other = header_of s (length d) ++ d in
+    let fronts : front ≡ other =
+    ap (λ tag. header_of tag (length c) ++ c) head.0 ∙ ap (λ zs. header_of s (length zs) ++ zs)
+    bodies.0 in
+    let sums : p ≡ q = ap (take 8) bodies.1 in
+    let hashes = checksum_once (hash_after h front) (hash_after k other)
+    (hash_of_more h t (drop 1 front)) (hash_of_more k s (drop 1 other)) sums in
+    hash_before front h k small less (hashes ∙ ap (hash_after k) (sym fronts))
+
 -- ---- contents
 
 some_weights : (weights : List ℕ) → IsAccepted 32 16 weights → 0 < length weights
@@ -150,10 +172,11 @@ content_once ManyContexts bytes others content p q =
 content_once Matched bytes others content p q = matched_once bytes others content p q
 
 -- a frame is that of one block, and what follows it is known
-pub frame_once : (before : ℕ) (block other frame another xs ys : List ℕ) (after later : Option ℕ)
-    → IsFrame before block frame after → IsFrame before other another later
-    → frame ++ xs ≡ another ++ ys → (block ≡ other) × (after ≡ later) × (xs ≡ ys)
-frame_once before block other frame another xs ys after later p q e =
+pub frame_once : (format : Format) (before : ℕ) (block other frame another xs ys : List ℕ)
+    (after later : Option ℕ) → IsFrame format before block frame after
+    → IsFrame format before other another later → frame ++ xs ≡ another ++ ys
+    → (block ≡ other) × (after ≡ later) × (xs ≡ ys)
+frame_once format before block other frame another xs ys after later p q e =
     let same = contents_once before _ _ p.content q.content xs ys
     (ap (λ zs. zs ++ xs) (sym p.laid_out) ∙ e ∙ ap (λ zs. zs ++ ys) q.laid_out) in
     let tag = tag_once p.kind q.kind p.is_last q.is_last same.0 in

@@ -40,7 +40,7 @@ below : (n : ℕ) → n % 2 ^ 64 < 2 ^ 64
 below n = mod_below n (2 ^ 64) (lit< tt)
 
 -- the hash before bytes is told by the hash after them
-hash_before : (bytes : List ℕ) (h k : ℕ) → h < 2 ^ 64 → k < 2 ^ 64
+pub hash_before : (bytes : List ℕ) (h k : ℕ) → h < 2 ^ 64 → k < 2 ^ 64
     → hash_after h bytes ≡ hash_after k bytes → h ≡ k
 hash_before [] h k p q e = e
 hash_before (b ∷ bytes) h k p q e =

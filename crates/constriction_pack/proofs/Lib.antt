@@ -1,6 +1,7 @@
 pub mod BlockLemmas
 pub mod ChangeLemmas
 pub mod FileLemmas
+pub mod FormatLemmas
 pub mod FrameLemmas
 pub mod HalfLemmas
 pub mod HashLemmas

@@ -1,5 +1,6 @@
 pub mod Contents
 pub mod Faults
+pub mod Formats
 pub mod Frames
 pub mod Matched
 pub mod Packed

@@ -31,11 +31,8 @@ use crate::kind::Kind;
 use constriction_io::{read_up_to, write_whole};
 use std::io::{Read, Write};
 
-/// What a packed file begins with.
-pub(crate) const SIGNATURE: &[u8] = b"cpk2\r\n\x1a\n";
-
 /// The hash of no bytes.
-pub(crate) const FIRST_HASH: u64 = 0xcbf2_9ce4_8422_2325;
+pub(crate) const OFFSET_BASIS: u64 = 0xcbf2_9ce4_8422_2325;
 
 /// The bytes of a header, and of a checksum.
 const HEADER: usize = 5;
@@ -43,7 +40,7 @@ const HEADER: usize = 5;
 const CHECKSUM: usize = 8;
 
 /// The 64-bit FNV-1a hash of these bytes after others.
-fn hash_of(before: u64, bytes: &[u8]) -> u64
+pub(crate) fn hash_of(before: u64, bytes: &[u8]) -> u64
     ensures { result ≡ hash_after before bytes.now }
 {
     let mut hash = before;

@@ -29,7 +29,8 @@ ghost use Rattle.constriction_pack.specs.Packed.{AreFrames, IsPacked};
 
 use crate::block::{MOST_BYTES, pack_block};
 use crate::fault::PackError;
-use crate::frame::{FIRST_HASH, SIGNATURE, write_frame};
+use crate::format::Format;
+use crate::frame::write_frame;
 use crate::kind::Kind;
 use crate::level::Level;
 use constriction_io::{read_up_to, write_whole};
@@ -55,13 +56,14 @@ fn write_block<W: Write>(
     block: &[u8],
 ) -> Result<Option<u64>, PackError>
     requires { length block.now ≤ 2 ^ 23 }
-    ensures ok { IfOk result (λ after. (frame : List ℕ) × IsFrame before block.now frame after
+    ensures ok { IfOk result (λ after. (frame : List ℕ)
+        × IsFrame Format.Cpk3 before block.now frame after
         × Appends (W.contents writer.old) (W.contents writer.new) frame
         × (length frame ≤ length block.now + 13)) }
     ensures last { IfOk result (λ after. IsTrue is_last ↔ (after ≡ None)) }
     ensures part { OnErr result ((written : List ℕ)
         × Appends (W.contents writer.old) (W.contents writer.new) written
-        × ((bytes : List ℕ) → ¬ (AreFrames (Some before) bytes written))) }
+        × ((bytes : List ℕ) → ¬ (AreFrames Format.Cpk3 (Some before) bytes written))) }
     ensures errors { IfErr result (λ error. ¬ (IsRefusal error)) }
 {
     match pack_block(alloc, level, block)? {
@@ -90,7 +92,8 @@ fn pack_next<R: Read, W: Write>(
     requires { length buffer.old.items ≤ 1 }
     ensures ok { IfOk result (λ after. (read block frame : List ℕ)
         × Consumes (R.remaining reader.old) (R.remaining reader.new) read
-        × (buffer.old.items ++ read ≡ block ++ buffer.new.items) × IsFrame before block frame after
+        × (buffer.old.items ++ read ≡ block ++ buffer.new.items)
+        × IsFrame Format.Cpk3 before block frame after
         × Appends (W.contents writer.old) (W.contents writer.new) frame
         × (length frame ≤ length block + 13) × (IsSome after → 2 ^ 20 ≤ length block)) }
     ensures kept { IfOk result (λ after. length buffer.new.items ≤ 1) }
@@ -98,7 +101,7 @@ fn pack_next<R: Read, W: Write>(
         × IsAtEnd (R.remaining reader.new)) }
     ensures part { OnErr result ((written : List ℕ)
         × Appends (W.contents writer.old) (W.contents writer.new) written
-        × ((bytes : List ℕ) → ¬ (AreFrames (Some before) bytes written))) }
+        × ((bytes : List ℕ) → ¬ (AreFrames Format.Cpk3 (Some before) bytes written))) }
     ensures errors { IfErr result (λ error. ¬ (IsRefusal error)) }
 {
     let most = block_bytes();
@@ -139,9 +142,9 @@ pub fn pack<R: Read, W: Write>(
         × ((bytes : List ℕ) → ¬ (IsPacked bytes written))) }
     ensures errors { IfErr result (λ error. ¬ (IsRefusal error)) }
 {
-    write_whole(writer, SIGNATURE)?;
+    write_whole(writer, Format::Cpk3.signature())?;
     let mut buffer = Vec::new(alloc);
-    let mut before = FIRST_HASH;
+    let mut before = Format::Cpk3.first_hash();
     for _ in 0..u64::MAX {
         match pack_next(alloc, level, reader, writer, &mut buffer, before)? {
             Some(after) => before = after,

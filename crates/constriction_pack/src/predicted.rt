@@ -1,11 +1,15 @@
 //! Bytes whose bits a mixer of contexts predicts.
 
-ghost use Rattle.std.specs.Prelude.{◌≡◌, ◌≢◌, ◌<◌, ◌≤◌, ◌^◌, ℕ, List, IfErr, IfOk, IfSome, length};
+ghost use Rattle.std.specs.Prelude.{◌≡◌, ◌≢◌, ◌↔◌, ◌<◌, ◌≤◌, ◌*◌, ◌^◌, ◌++◌, [], ◌∷◌, ℕ, List};
+ghost use Rattle.std.specs.Prelude.{IfErr, IfOk, IfSome, IsTrue, length};
 ghost use Rattle.std.specs.Option.{ForSome};
+ghost use Rattle.constriction_coders.specs.Bytes.{bytes_of_words};
 ghost use Rattle.constriction_pack.specs.Contents.{IsContent, IsPredicted, few_contexts, many_contexts};
+ghost use Rattle.constriction_pack.specs.Formats.{HasEnoughWords, IsAdmitted};
 
 use crate::block::MOST_BYTES;
 use crate::fault::PackError;
+use crate::format::Format;
 use crate::kind::{
     FEW_CONTEXTS, FEW_FOLLOWERS, FEW_GROUPS, FEW_REACH, Kind, MANY_CONTEXTS, MANY_FOLLOWERS,
     MANY_GROUPS, MANY_REACH,
@@ -20,7 +24,27 @@ use constriction_coders::bytes::{BytesError, push_words, words_of};
 use constriction_coders::queue::DecoderFrontendError;
 use std::alloc::{AllocError, Global};
 
-/// The content of bytes by what predicts their bits, if it is shorter than `below`.
+/// The fewest words of so many bytes: one for each 2^12.
+fn fewest_words(count: usize) -> usize
+    ensures { (words : ℕ) → result ≤ words ↔ (count ≤ 2 ^ 12 * words) }
+{
+    count.div_ceil(4096)
+}
+
+/// Whether a content has enough words for as many bytes as it says.
+pub(crate) fn has_enough_words(content: &[u8]) -> bool
+    ensures { (block rest : List ℕ) → content.now ≡ bytes_of_words (length block ∷ []) ++ rest
+        → IsTrue result ↔ HasEnoughWords block content.now }
+{
+    let [first, second, third, fourth, words @ ..] = content else {
+        return false;
+    };
+    let count = little_endian(&[*first, *second, *third, *fourth]) as usize;
+    fewest_words(count) <= words.len() / 4
+}
+
+/// The content of bytes by what predicts their bits, if it is shorter than `below` and has enough
+/// words.
 fn by_predictor<P>(
     alloc: Global,
     predictor: &mut P,
@@ -33,11 +57,13 @@ where
     requires short { length bytes.now ≤ 2 ^ 23 }
     ensures coded { IfOk result (λ coded. IfSome coded (λ content.
         IsPredicted P.rows P.next (P.state predictor.old) bytes.now content.items)) }
+    ensures enough { IfOk result (λ coded. IfSome coded (λ content.
+        HasEnoughWords bytes.now content.items)) }
     ensures shorter { IfOk result (λ coded. IfSome coded (λ content.
         length content.items < below)) }
 {
     let words = encode_bytes(alloc, predictor, bytes)?;
-    if words.len() + 1 >= below / 4 {
+    if words.len() + 1 >= below / 4 || words.len() < fewest_words(bytes.len()) {
         return Ok(None);
     }
     let mut content = Vec::new(alloc);
@@ -98,12 +124,14 @@ fn six_contexts(alloc: Global) -> Result<Mixer<6>, AllocError>
     )
 }
 
-/// The content `FewContexts` of bytes, if it is shorter than `below`.
+/// The content `FewContexts` of bytes, if it is shorter than `below` and has enough words.
 fn by_few_contexts(alloc: Global, bytes: &[u8], below: usize) -> Result<Option<Vec<u8>>, AllocError>
     requires some { 0 < length bytes.now }
     requires short { length bytes.now ≤ 2 ^ 23 }
     ensures coded { IfOk result (λ coded. IfSome coded (λ content.
         IsContent Kind.FewContexts bytes.now content.items)) }
+    ensures enough { IfOk result (λ coded. IfSome coded (λ content.
+        HasEnoughWords bytes.now content.items)) }
     ensures shorter { IfOk result (λ coded. IfSome coded (λ content.
         length content.items < below)) }
 {
@@ -111,7 +139,7 @@ fn by_few_contexts(alloc: Global, bytes: &[u8], below: usize) -> Result<Option<V
     by_predictor(alloc, &mut mixer, bytes, below)
 }
 
-/// The content `ManyContexts` of bytes, if it is shorter than `below`.
+/// The content `ManyContexts` of bytes, if it is shorter than `below` and has enough words.
 fn by_many_contexts(
     alloc: Global,
     bytes: &[u8],
@@ -121,6 +149,8 @@ fn by_many_contexts(
     requires short { length bytes.now ≤ 2 ^ 23 }
     ensures coded { IfOk result (λ coded. IfSome coded (λ content.
         IsContent Kind.ManyContexts bytes.now content.items)) }
+    ensures enough { IfOk result (λ coded. IfSome coded (λ content.
+        HasEnoughWords bytes.now content.items)) }
     ensures shorter { IfOk result (λ coded. IfSome coded (λ content.
         length content.items < below)) }
 {
@@ -149,6 +179,8 @@ fn by_either(
     requires short { length bytes.now ≤ 2 ^ 23 }
     ensures coded { IfOk result (λ coded. IfSome coded (λ block.
         IsContent block.0 bytes.now block.1.items)) }
+    ensures admitted { IfOk result (λ coded. IfSome coded (λ block.
+        IsAdmitted Format.Cpk3 block.0 bytes.now block.1.items)) }
     ensures shorter { IfOk result (λ coded. IfSome coded (λ block. length block.1.items < below)) }
 {
     let few = by_few_contexts(alloc, bytes, below)?;
@@ -174,6 +206,8 @@ pub(crate) fn by_contexts(
     requires short { length bytes.now ≤ 2 ^ 23 }
     ensures coded { IfOk result (λ coded. IfSome coded (λ block.
         IsContent block.0 bytes.now block.1.items)) }
+    ensures admitted { IfOk result (λ coded. IfSome coded (λ block.
+        IsAdmitted Format.Cpk3 block.0 bytes.now block.1.items)) }
     ensures shorter { IfOk result (λ coded. IfSome coded (λ block. length block.1.items < below)) }
 {
     match level {

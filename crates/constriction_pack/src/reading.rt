@@ -5,10 +5,10 @@ ghost use Rattle.std.specs.Prelude.{OnOk, [], length};
 ghost use Rattle.std.specs.Io.KnownBytes.{Consumes, IsAtEnd};
 ghost use Rattle.constriction_coders.specs.Bytes.{bytes_of_words};
 ghost use Rattle.constriction_pack.specs.Faults.{IsRefusal};
-ghost use Rattle.constriction_pack.specs.Packed.{signature};
+ghost use Rattle.constriction_pack.specs.Formats.{signature};
 
 use crate::fault::PackError;
-use crate::frame::SIGNATURE;
+use crate::format::{Format, SIGNATURE};
 use constriction_io::read_up_to;
 use std::io::Read;
 
@@ -21,19 +21,23 @@ pub(crate) fn little_endian(bytes: &[u8]) -> u32
 }
 
 /// Reads what packed files begin with.
-pub(crate) fn read_signature<R: Read>(reader: &mut R, input: &mut Vec<u8>) -> Result<(), PackError>
-    ensures ok { OnOk result (Consumes (R.remaining reader.old)
-        (R.remaining reader.new) signature) }
-    ensures accepted { (rest : List ℕ) → R.remaining reader.old ≡ Some (signature ++ rest)
+pub(crate) fn read_signature<R: Read>(
+    reader: &mut R,
+    input: &mut Vec<u8>,
+) -> Result<Format, PackError>
+    ensures ok { IfOk result (λ format. Consumes (R.remaining reader.old)
+        (R.remaining reader.new) (signature format)) }
+    ensures accepted { (format : Format) (rest : List ℕ)
+        → R.remaining reader.old ≡ Some (signature format ++ rest)
         → IfErr result (λ error. ¬ (IsRefusal error)) }
     ensures errors { IfErr result (λ error. error ≢ PackError.TooLong) }
 {
     input.clear();
-    read_up_to(reader, SIGNATURE.len(), input)?;
-    if input.as_slice() != SIGNATURE {
-        return Err(PackError::NotPacked);
+    read_up_to(reader, SIGNATURE, input)?;
+    match Format::of_signature(input) {
+        Some(format) => Ok(format),
+        None => Err(PackError::NotPacked),
     }
-    Ok(())
 }
 
 /// Reads that nothing follows.

@@ -9,29 +9,35 @@ ghost use Rattle.constriction_pack.specs.Packed.{AreFrames, IsPacked};
 
 use crate::block::unpack_block;
 use crate::fault::PackError;
-use crate::frame::{FIRST_HASH, content_of, read_frame};
+use crate::format::Format;
+use crate::frame::{content_of, read_frame};
 use crate::reading::{read_end, read_signature};
 use constriction_io::write_whole;
 use std::alloc::Global;
 use std::io::{Read, Write};
 
-/// Reads the next frame, after frames with this hash. It answers the bytes of its block and the
-/// hash after it, or `None` after the last one.
+/// Reads the next frame in a format, after frames with this hash. It answers the bytes of its block
+/// and the hash after it, or `None` after the last one.
 fn read_block<R: Read>(
     alloc: Global,
     reader: &mut R,
     buffer: &mut Vec<u8>,
+    format: Format,
     before: u64,
 ) -> Result<(Vec<u8>, Option<u64>), PackError>
     ensures ok { IfOk result (λ answer. (frame : List ℕ)
-        × IsFrame before answer.0.items frame answer.1
+        × IsFrame format before answer.0.items frame answer.1
         × Consumes (R.remaining reader.old) (R.remaining reader.new) frame) }
-    ensures accepted { (bytes frames : List ℕ) → AreFrames (Some before) bytes frames
+    ensures accepted { (bytes frames : List ℕ) → AreFrames format (Some before) bytes frames
         → R.remaining reader.old ≡ Some frames → IfErr result (λ error. ¬ (IsRefusal error)) }
     ensures errors { IfErr result (λ error. error ≢ PackError.TooLong) }
 {
     let (kind, is_last, after) = read_frame(reader, before, buffer)?;
-    let block = unpack_block(alloc, kind, content_of(buffer))?;
+    let content = content_of(buffer);
+    if !format.admits(kind, content) {
+        return Err(PackError::Damaged);
+    }
+    let block = unpack_block(alloc, kind, content)?;
     if is_last {
         return Ok((block, None));
     }
@@ -44,21 +50,22 @@ fn read_next<R: Read>(
     alloc: Global,
     reader: &mut R,
     buffer: &mut Vec<u8>,
+    format: Format,
     before: u64,
     most: u64,
 ) -> Result<(Vec<u8>, Option<u64>), PackError>
     ensures ok { IfOk result (λ answer. (frame : List ℕ)
-        × IsFrame before answer.0.items frame answer.1
+        × IsFrame format before answer.0.items frame answer.1
         × Consumes (R.remaining reader.old) (R.remaining reader.new) frame) }
     ensures end { IfOk result (λ answer. answer.1 ≡ None → IsAtEnd (R.remaining reader.new)) }
     ensures most { IfOk result (λ answer. length answer.0.items ≤ most) }
     ensures long { IfErr result (λ error. error ≡ PackError.TooLong → most < 2 ^ 23) }
-    ensures accepted { (bytes frames : List ℕ) → AreFrames (Some before) bytes frames
+    ensures accepted { (bytes frames : List ℕ) → AreFrames format (Some before) bytes frames
         → R.remaining reader.old ≡ Some frames
         → IfErr result (λ error. IsRefusal error → (error ≡ PackError.TooLong)
         × (most < length bytes)) }
 {
-    let (block, after) = read_block(alloc, reader, buffer, before)?;
+    let (block, after) = read_block(alloc, reader, buffer, format, before)?;
     if block.len() as u64 > most {
         return Err(PackError::TooLong);
     }
@@ -103,11 +110,11 @@ pub fn unpack<R: Read, W: Write>(
         × (written ++ rest ≡ bytes)) }
 {
     let mut buffer = Vec::new(alloc);
-    read_signature(reader, &mut buffer)?;
-    let mut before = FIRST_HASH;
+    let format = read_signature(reader, &mut buffer)?;
+    let mut before = format.first_hash();
     let mut left = limit;
     for _ in 0..u64::MAX {
-        let (block, after) = read_next(alloc, reader, &mut buffer, before, left)?;
+        let (block, after) = read_next(alloc, reader, &mut buffer, format, before, left)?;
         write_whole(writer, &block)?;
         left -= block.len() as u64;
         match after {

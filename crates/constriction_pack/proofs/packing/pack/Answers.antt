@@ -1,5 +1,6 @@
 use Rattle.std.proofs.Common.{[], refl}
 use Rattle.std.proofs.KnownBytes.{Appends-nil}
+use Rattle.constriction_pack.specs.declared.format.Format.TheVariants.{Cpk3}
 use Rattle.constriction_pack.proofs.FileLemmas.{nothing_framed, signature_written, under_way_done}
 use Rattle.constriction_pack.proofs.FileLemmas.{under_way_more, unended}
 use Rattle.constriction_pack.proofs.ListLemmas.{OnErr-from}
@@ -21,7 +22,8 @@ loop-preserved g c =
 
 pub returns-in_err-write_whole-clause-part : goal.returns-in_err-write_whole-clause-part
 returns-in_err-write_whole-clause-part g c =
-    OnErr-from _ _ (signature_written _ _ c.in_err-write_whole.ensures.err)
+    OnErr-from _ _
+    (signature_written Cpk3 _ _ (rw c.signature.ensures at c.in_err-write_whole.ensures.err))
 
 pub returns-in_err-after-clause-part : goal.returns-in_err-after-clause-part
 returns-in_err-after-clause-part g c =

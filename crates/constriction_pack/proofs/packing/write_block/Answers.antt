@@ -1,6 +1,8 @@
 use Rattle.std.proofs.Common.{refl, ap, arith, length}
 use Rattle.constriction_pack.specs.Contents.{IsContent}
+use Rattle.constriction_pack.specs.Formats.{IsAdmitted}
 use Rattle.constriction_pack.specs.Frames.{frame_of, tag_of}
+use Rattle.constriction_pack.specs.declared.format.Format.TheVariants.{Cpk3}
 use Rattle.constriction_pack.specs.declared.kind.Kind.TheVariants.{Stored}
 use Rattle.constriction_pack.proofs.FileLemmas.{none_written, part_written}
 use Rattle.constriction_pack.proofs.FrameLemmas.{length_frame_of}
@@ -11,6 +13,8 @@ pub returns-in_ok-after-in-Some-clause-ok : goal.returns-in_ok-after-in-Some-cla
 returns-in_ok-after-in-Some-clause-ok g c =
     let coded : IsContent c.in-Some.kind c.args.block.now c.in-Some.content.items =
     rw c.in-Some.is at c.in_ok-kind.ensures.coded in
+    let admitted : IsAdmitted Cpk3 c.in-Some.kind c.args.block.now c.in-Some.content.items =
+    rw c.in-Some.is at c.in_ok-kind.ensures.admitted in
     let shorter = rw c.in-Some.is at c.in_ok-kind.ensures.shorter in
     let tag = tag_of c.in-Some.kind c.args.is_last in (
       frame_of c.args.before tag c.deref.result.now,
@@ -20,6 +24,7 @@ returns-in_ok-after-in-Some-clause-ok g c =
         content = c.deref.result.now;
         short = omega (arith, shorter, c.requires, ap length c.deref.ensures.value);
         of_kind = rw c.deref.ensures.value coded;
+        admitted = rw c.deref.ensures.value admitted;
         laid_out = refl;
         leads = c.in_ok-after-in-Some.ensures.leads;
       },
@@ -42,6 +47,7 @@ returns-in_ok-after-in-None-clause-ok g c =
         content = c.args.block.now;
         short = c.requires;
         of_kind = (c.requires, refl);
+        admitted = tt;
         laid_out = refl;
         leads = c.in_ok-after-in-None.ensures.leads;
       },
