@@ -45,7 +45,6 @@ SUBJECTS = (
     ("a model made, without a hash", ".*made"),
     ("a conversion, without a hash", "to_"),
     ("a symbol, by the client or a coder", "write_quantiles|read_symbols|.*coder"),
-    ("a byte, packed or unpacked", ".*pack_block"),
     ("a word, by a source or a sink", ""),
 )
 

@@ -17,7 +17,7 @@ TARGET = f"{TOP}/bench/target"
 # The crate that the benchmark measures, which is not in crates.txt: its name, where its files stand, and what it uses.
 KERNELS = "constriction_kernels"
 OF_KERNELS = "bench/kernels"
-KERNELS_USE = "constriction constriction_client constriction_words constriction_coders constriction_tables constriction_pack"
+KERNELS_USE = "constriction constriction_client constriction_words constriction_coders constriction_tables"
 # How `rt ci` says that a crate is proved.
 PROVED = re.compile(r"^rt: (\w+) (?:is kept|proved)", re.M)
 # The commands that the tools run, and where they come from.

@@ -62,8 +62,6 @@ exports! {
     coder_lookup_decode = kernel_coder_lookup_decode(weights: [u32], words: [u32]);
     range_encode = kernel_range_encode(weights: [u32], symbols: [u32]);
     range_decode = kernel_range_decode(weights: [u32], symbols: [u32]);
-    pack_block = kernel_pack_block(bytes: [u8]);
-    unpack_block = kernel_unpack_block(bytes: [u8]);
     table_encode = kernel_table_encode(weights: [u32], bytes: [u8]);
     table_decode = kernel_table_decode(weights: [u32], bytes: [u8]);
     table_decode_two = kernel_table_decode_two(weights: [u32], bytes: [u8]);

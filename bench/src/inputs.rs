@@ -104,11 +104,6 @@ impl Inputs {
         keep((0..BLOCK).map(|_| letter()).collect())
     }
 
-    /// The bytes of a block, each as likely.
-    pub fn random_bytes(&mut self) -> &'static [u8] {
-        keep((0..BLOCK).map(|_| self.random.number() as u8).collect())
-    }
-
     pub fn small_table(&mut self, rows: usize) -> SmallTable {
         let weights = self.random.weights(rows, 12);
         self.small_table_of(weights)

@@ -1,5 +1,5 @@
 //! The kernels of both sides, paired over the same inputs.
-use crate::inputs::{Inputs, SmallTable, Table, BLOCK, MANY};
+use crate::inputs::{Inputs, SmallTable, Table, MANY};
 use crate::{c, here, rust};
 use std::hint::black_box;
 
@@ -241,9 +241,7 @@ pub fn usual() -> Vec<Kernel> {
     kernels.push(kernel!("fallible iterator read", "u32", 0, MANY, fallible_iterator_read(words)));
     kernels.push(kernel!("callback write", "u32", 0, MANY, callback_write(words)));
     kernels.push(kernel!("fallible callback write", "u32", 0, MANY, fallible_callback_write(words)));
-    let (text, random) = (inputs.text(), inputs.random_bytes());
-    kernels.push(kernel!("pack_block of text", "u32/16", rows_of(text), BLOCK, pack_block(text)).with(Sides::Written));
-    kernels.push(kernel!("pack_block of random bytes", "u32/16", rows_of(random), BLOCK, pack_block(random)).with(Sides::Written));
+    let text = inputs.text();
     let (weights, bytes) = (weights_of(text, 12), &text[..MANY]);
     let rows = weights.len();
     kernels.push(kernel!("direct table decode_into", "u32/12", rows, MANY, table_decode(weights, bytes)).with(Sides::Nearest));
@@ -252,7 +250,6 @@ pub fn usual() -> Vec<Kernel> {
     kernels.push(kernel!("direct table decode_two", "u32/12", rows, MANY, c::table_decode_two(weights, bytes)).with(Sides::C));
     kernels.push(kernel!("direct table encode_prepared_slice_reverse", "u32/12", rows, MANY, table_encode(weights, bytes)).with(Sides::Nearest));
     kernels.push(kernel!("direct table encode_prepared_slice_reverse", "u32/12", rows, MANY, c::table_encode(weights, bytes)).with(Sides::C));
-    kernels.push(kernel!("unpack_block of text", "u32/16", rows_of(text), BLOCK, unpack_block(text)).with(Sides::Slots));
     kernels
 }
 

@@ -3,7 +3,7 @@ use Rattle.std.specs.Prelude.{ℕ, ◌*◌, ◌-◌, ◌/◌, ◌^◌, ◌≤◌
 use Rattle.constriction_pack.specs.declared.format.Format.{Format}
 use Rattle.constriction_pack.specs.declared.format.Format.TheVariants.{Cpk2, Cpk3}
 use Rattle.constriction_pack.specs.declared.kind.Kind.{Kind}
-use Rattle.constriction_pack.specs.declared.kind.Kind.TheVariants.{FewContexts, ManyContexts}
+use Rattle.constriction_pack.specs.declared.kind.Kind.TheVariants.{FewContexts, ManyContexts, Matched}
 
 -- what a packed file begins with
 abbrev pub signature : Format → List ℕ
@@ -19,4 +19,5 @@ HasEnoughWords block content = length block ≤ 2 ^ 12 * ((length content - 4) /
 abbrev pub IsAdmitted : Format → Kind → (block content : List ℕ) → Type 0
 IsAdmitted Cpk3 FewContexts block content = HasEnoughWords block content
 IsAdmitted Cpk3 ManyContexts block content = HasEnoughWords block content
+IsAdmitted Cpk2 Matched block content = ⊥
 IsAdmitted format kind block content = Unit {0}

@@ -15,7 +15,7 @@ pub(crate) const SIGNATURE: usize = 8;
 /// A format of packed files.
 #[derive(Debug, Clone, Copy, PartialEq, Eq)]
 pub(crate) enum Format {
-    /// Contents by contexts may have few words, and take long to decode.
+    /// Contents by contexts may have few words, and take long to decode; none is by matches.
     Cpk2,
     /// What [`pack`](crate::pack) writes.
     Cpk3,
@@ -64,6 +64,7 @@ impl Format {
         match (self, kind) {
             (Format::Cpk3, Kind::FewContexts) => has_enough_words(content),
             (Format::Cpk3, Kind::ManyContexts) => has_enough_words(content),
+            (Format::Cpk2, Kind::Matched) => false,
             _ => true,
         }
     }
