@@ -10,8 +10,8 @@ pub enum Level {
     Fast,
     /// Matches that are found with much effort.
     Default,
-    /// The same, or bits that are predicted by two contexts or by six: what is shortest. Packing and
-    /// unpacking take 36 MiB for these.
+    /// The same, or bits that are predicted by two contexts or by six: what is shortest. Packing
+    /// and unpacking take 36 MiB for these.
     Best,
 }
 
