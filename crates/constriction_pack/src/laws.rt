@@ -1,6 +1,6 @@
 //! What comes back, each law the contract of a function.
 
-ghost use Rattle.std.specs.Prelude.{◌≡◌, ◌≢◌, ◌<◌, ◌≤◌, ◌^◌, ℕ, List, [], ◌∷◌, ◌++◌, IfErr, IfOk};
+ghost use Rattle.std.specs.Prelude.{◌≡◌, ◌≢◌, ◌<◌, ◌≤◌, ◌*◌, ◌^◌, ℕ, List, [], ◌∷◌, ◌++◌, IfErr, IfOk};
 ghost use Rattle.std.specs.Prelude.{length};
 ghost use Rattle.constriction_pack.specs.Contents.{IsContent};
 ghost use Rattle.constriction_pack.specs.Faults.{IsRefusal};
@@ -18,6 +18,12 @@ use std::alloc::Global;
 pub fn block_once()
     ensures { (kind : Kind) (bytes others content : List ℕ) → IsContent kind bytes content
         → IsContent kind others content → bytes ≡ others }
+{}
+
+/// A block by matches has at most 2^15 bytes for each byte of its content.
+pub fn matches_are_bounded()
+    ensures { (bytes content : List ℕ) → IsContent Kind.Matched bytes content
+        → length bytes ≤ 2 ^ 15 * length content }
 {}
 
 /// A packed file has one content.
