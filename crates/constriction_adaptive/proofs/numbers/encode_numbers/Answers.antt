@@ -5,6 +5,7 @@ use Rattle.std.specs.Prelude.{All}
 use Rattle.std.specs.Bool.{beq}
 use Rattle.std.proofs.lemmas.List.{append-nil, take_all}
 use Rattle.std.proofs.lemmas.List.Elements.{All-nil}
+use Rattle.constriction_coders.proofs.Outcomes.{no-error}
 use Rattle.constriction_coders.specs.Places.{entry_at}
 use Rattle.constriction_coders.specs.Spans.{Span, whole, IsNarrowed}
 use Rattle.constriction_adaptive.specs.Numbers.{all_bits, bits_of, AreReadFrom}
@@ -40,24 +41,20 @@ loop-number-preserved g c =
       small = small-take width value numbers i number c.loop-number-test.true c.number-item.is before.small c.in-Ok.ensures.fits;
     }
 
-pub returns-in-Err-clause-large : goal.returns-in-Err-clause-large
-returns-in-Err-clause-large g c = λ is small.
-    let fits = small-at g.row.BITS g.Number.WholeNumber.whole c.args.numbers.now c.loop-number.number-index c.number-item.result
-    c.loop-number-test.true c.number-item.is small in
-    let same : c.in-Err.error ≡ Frontend ImpossibleSymbol = cc in
-    omega (arith, fits, c.in-Err.ensures.large (ap Err same))
+pub returns-in-Err : goal.returns-in-Err
+returns-in-Err g c = record {
+  ok = tt;
+  read = tt;
+  learned = tt;
+  large = λ is small.
+      let fits = small-at g.row.BITS g.Number.WholeNumber.whole c.args.numbers.now c.loop-number.number-index c.number-item.result
+      c.loop-number-test.true c.number-item.is small in
+      let same : c.in-Err.error ≡ Frontend ImpossibleSymbol = cc in
+      omega (arith, fits, c.in-Err.ensures.large (ap Err same));
+}
 
-pub returns-in-Ok-into_compressed-clause-ok : goal.returns-in-Ok-into_compressed-clause-ok
-returns-in-Ok-into_compressed-clause-ok g c =
-    let all = take_all c.loop-number.number-index c.args.numbers.now (omega (arith, c.loop-number-test.false)) in
-    let coded = subst (λ (ns : List g.row.Number.Denot). AreCoded g.P.Predictor.next
-    (λ s. IsNarrowed (entry_at (predicted_entry g.P.Predictor.rows beq) s) 16) (all_bits g.row.BITS (map g.Number.WholeNumber.whole ns))
-    (g.P.Predictor.state c.args.predictor.now) whole (g.P.Predictor.state c.loop-number.predictor) c.loop-number.encoder) all
-    c.loop-number.invariant.so_far in
-    (c.loop-number.encoder, coded.led, c.in-Ok-into_compressed.ensures.ok)
-
-pub returns-in-Ok-into_compressed-clause-read : goal.returns-in-Ok-into_compressed-clause-read
-returns-in-Ok-into_compressed-clause-read g c =
+pub returns-in-Ok-into_compressed : goal.returns-in-Ok-into_compressed
+returns-in-Ok-into_compressed g c =
     let width = g.row.BITS in
     let value = g.Number.WholeNumber.whole in
     let rows = g.P.Predictor.rows in
@@ -66,9 +63,21 @@ returns-in-Ok-into_compressed-clause-read g c =
     let words = c.in-Ok-into_compressed.words.items in
     let numbers = map value c.args.numbers.now in
     let all = take_all c.loop-number.number-index c.args.numbers.now (omega (arith, c.loop-number-test.false)) in
+    let coded = subst (λ (ns : List g.row.Number.Denot). AreCoded next
+    (λ s. IsNarrowed (entry_at (predicted_entry rows beq) s) 16) (all_bits width (map value ns)) first whole
+    (g.P.Predictor.state c.loop-number.predictor) c.loop-number.encoder) all c.loop-number.invariant.so_far in
     let tile = subst (λ (ns : List g.row.Number.Denot). AllTile rows next 16 first (all_bits width (map value ns))) all
     c.loop-number.invariant.tile in
     let small = subst (λ (ns : List g.row.Number.Denot). All (λ n. n < 2 ^ width) (map value ns)) all c.loop-number.invariant.small in
-    subst (λ (ws : List ℕ). AreReadFrom width rows next first numbers ws) (append-nil words)
-    (message-read rows next width first numbers words [] small (returns-in-Ok-into_compressed-clause-ok g c)
-    (All-nil (λ w. w < 2 ^ 32)) tile)
+    record {
+      ok = (c.loop-number.encoder, coded.led, c.in-Ok-into_compressed.ensures.ok);
+      read =
+          subst (λ (ws : List ℕ). AreReadFrom width rows next first numbers ws) (append-nil words)
+          (message-read rows next width first numbers words [] small
+          (c.loop-number.encoder, coded.led, c.in-Ok-into_compressed.ensures.ok) (All-nil (λ w. w < 2 ^ 32)) tile);
+      learned = coded.learned;
+      large = λ is. absurd (no-error _ _ is);
+    }
+
+pub returns-in-Err-into_compressed : goal.returns-in-Err-into_compressed
+returns-in-Err-into_compressed g c = record { ok = tt; read = tt; learned = tt; large = λ is. cc }
