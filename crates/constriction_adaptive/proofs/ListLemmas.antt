@@ -1,7 +1,7 @@
 -- Lists that loops write, and sums over them.
-use Rattle.std.proofs.Common.{◌≡◌, ◌≢◌, ℕ, ◌+◌, ◌<◌, List, [], ◌∷◌, length, map, drop, get_or, set, refl, sym, ◌∙◌, ap, arith, zero-add, get_or-set_other, get_or-set_same, below_more, sum}
+use Rattle.std.proofs.Common.{◌≡◌, ◌≢◌, ℕ, ◌+◌, ◌<◌, List, [], ◌∷◌, ◌++◌, length, map, drop, get_or, set, replicate, refl, sym, ◌∙◌, ap, arith, zero-add, get_or-set_other, get_or-set_same, below_more, sum}
 use Rattle.std.specs.List.{range_with_len}
-use Rattle.std.proofs.lemmas.List.{ext_get_or, get_or-map, length-map}
+use Rattle.std.proofs.lemmas.List.{ext_get_or, get_or-map, length-map, map_push, replicate_more}
 use Rattle.std.proofs.lemmas.List.FromFn.{sum_by-map-range_with_len_more}
 
 -- a list whose elements are those of a map
@@ -18,6 +18,12 @@ set_more P xs i v within before here =
     below_more (λ k. P k (get_or (set xs i v) k 0)) i
     (λ k h. let ne : k ≢ i = omega arith in rw get_or-set_other (before k h))
     (rw get_or-set_same here)
+
+-- one element more of those that all have one value
+pub map_more : {A B : Type 0} (f : A → B) (all : List A) (xs : List A) (x : A) (n : ℕ) (v : B) → all ≡ xs ++ x ∷ [] → map f xs ≡ replicate n v
+    → f x ≡ v → map f all ≡ replicate (n + 1) v
+map_more f all xs x n v is e here =
+    ap (map f) is ∙ map_push f xs x ∙ ap (λ ys. ys ++ f x ∷ []) e ∙ ap (λ y. replicate n v ++ y ∷ []) here ∙ replicate_more n v
 
 -- one term more
 pub sum_more : (f : ℕ → ℕ) (i s : ℕ) → s ≡ sum (map f (range_with_len 0 i)) → s + f i ≡ sum (map f (range_with_len 0 (i + 1)))
