@@ -1,5 +1,5 @@
 -- Runs of symbols in their states: they grow at the end, are joined, and stop.
-use Rattle.std.proofs.Common.{◌≡◌, ℕ, ◌+◌, ◌<◌, suc, Bool, List, [], ◌∷◌, ◌++◌, fold, length, take, drop, get_or, Option, Result, refl, ap, inl, inr, sym, ◌∙◌, subst}
+use Rattle.std.proofs.Common.{◌≡◌, ℕ, ◌+◌, ◌<◌, suc, Bool, List, [], ◌∷◌, ◌++◌, fold, length, take, drop, get_or, Option, Result, Err, refl, ap, inl, inr, sym, ◌∙◌, subst}
 use Rattle.std.specs.Prelude.{All}
 use Rattle.std.specs.List.{AllZip}
 use Rattle.std.proofs.lemmas.List.{take_more}
@@ -7,7 +7,7 @@ use Rattle.std.proofs.lemmas.List.Elements.{All-append, All-cons, All-nil}
 use Rattle.std.proofs.lemmas.List.Sums.{fold-append}
 use Rattle.constriction_model.specs.Coding.{InTurn}
 use Rattle.constriction_model.specs.Rows.{Row, RowsTile, entry_of}
-use Rattle.constriction_words.specs.declared.CoderError.TheVariants.{Frontend}
+use Rattle.constriction_words.specs.declared.CoderError.TheVariants.{Frontend, Backend}
 use Rattle.constriction_coders.specs.Intervals.{Held, DecodesFromQueue, IsAboveAll}
 use Rattle.constriction_coders.specs.declared.queue.range_decoder.DecoderFrontendError.TheVariants.{InvalidData, OutOfMemory}
 use Rattle.constriction_coders.specs.Places.{placed, entry_at, IsDecodedAt}
@@ -160,3 +160,12 @@ pub above-all : {Symbol Coder S E : Type 0} (held : Coder → Held S) (MayRefuse
     → IsAboveAll precision (held old).held
 above-all held MayRefuse rows gives precision old new (inl (fault, is, same, stays)) = cc
 above-all held MayRefuse rows gives precision old new (inr tells) = tells.fault.0
+
+-- failed to read a word
+pub read-failed : {Symbol Coder S E : Type 0} (held : Coder → Held S) (MayRefuse : Symbol → Type 0) (rows : List (Row Symbol))
+    (gives : S → Result (Option ℕ) E → S → Type 0) (precision : ℕ) (error : E) (old new : Coder)
+    → IsNotDecoded (λ fault. fault ≡ OutOfMemory)
+    (λ from answer to. DecodesFromQueue MayRefuse rows gives precision (held from) answer (held to)) (Backend error) old new
+    → (reached : S) × (left : S) × gives reached (Err error) left
+read-failed held MayRefuse rows gives precision error old new (inl (fault, is, same, stays)) = cc
+read-failed held MayRefuse rows gives precision error old new (inr tells) = ((held old).source, (held new).source, tells.fault)

@@ -1,10 +1,11 @@
-use Rattle.std.proofs.Common.{◌≡◌, ◌*◌, ◌+◌, ◌^◌, ℕ, List, Bool, ◌∷◌, [], ◌++◌, ◌<◌, ◌≤◌, length, map, arith, ap, inl, inr, sym, ◌∙◌, subst, length-append}
+use Rattle.std.proofs.Common.{◌≡◌, Err, ◌*◌, ◌+◌, ◌^◌, ℕ, List, Bool, ◌∷◌, [], ◌++◌, ◌<◌, ◌≤◌, length, map, arith, ap, inl, inr, sym, ◌∙◌, subst, length-append}
 use Rattle.std.proofs.lemmas.List.{length-map, map-append}
 use Rattle.std.proofs.lemmas.List.Elements.{All-push}
 use Rattle.std.proofs.lemmas.Nat.{mul-le}
 use Rattle.std.specs.Prelude.{All}
 use Rattle.std.specs.Bool.{beq}
-use Rattle.constriction_words.specs.declared.CoderError.TheVariants.{Frontend}
+use Rattle.constriction_words.specs.declared.CoderError.TheVariants.{Frontend, Backend}
+use Rattle.constriction_coders.proofs.Outcomes.{no-error}
 use Rattle.constriction_coders.specs.Places.{placed}
 use Rattle.constriction_coders.specs.RangeDecoder.{held_by}
 use Rattle.constriction_coders.specs.declared.queue.range_decoder.DecoderFrontendError.TheVariants.{InvalidData}
@@ -12,7 +13,7 @@ use Rattle.constriction_adaptive.specs.Numbers.{all_bits, bits_of}
 use Rattle.constriction_adaptive.specs.Predicted.{AreCoded, IsReadIn}
 use Rattle.constriction_adaptive.proofs.Bits.{all-bits-length, all-bits-push}
 use Rattle.constriction_adaptive.proofs.ReadOnce.{not-invalid}
-use Rattle.constriction_adaptive.proofs.Runs.{above-all, coded-append}
+use Rattle.constriction_adaptive.proofs.Runs.{above-all, coded-append, read-failed}
 use Rattle.constriction_adaptive.proofs.Telling.{holding, told-start, told-turns}
 use Rattle.constriction_adaptive.proofs.numbers.decode_numbers.Goals as goal
 
@@ -41,24 +42,56 @@ loop-done-preserved g c =
           c.loop-done.invariant.so_far c.in-Ok-decode_number.ensures.ok);
     }
 
-pub returns-clause-ok : goal.returns-clause-ok
-returns-clause-ok g c = λ words known.
-    let gives = g.Source.ReadWords.read_gives in
-    let tells = g.Source.ReadWords.tells_upcoming in
-    let law = g.met.Source.ReadWords.reads_upcoming in
-    let start = told-start gives tells law c.args.source (held_by c.in-Ok.decoder).held c.in-Ok.decoder.words c.in-Ok.ensures.ok
-    words known in
-    let bits = all_bits g.row.BITS (map g.Number.WholeNumber.whole c.loop-done.numbers.items) in
-    let run = told-turns gives tells law g.P.Predictor.rows (λ s t. t ≡ s) beq 16
-    (placed g.P.Predictor.next (g.P.Predictor.state c.args.predictor.now) bits) (held_by c.in-Ok.decoder) (held_by c.loop-done.decoder)
-    c.loop-done.invariant.so_far.led start.0 start.2 in
-    record {
-      small = c.loop-done.invariant.small;
-      start = holding (held_by c.in-Ok.decoder).held start.0;
-      begun = start.1;
-      end = holding (held_by c.loop-done.decoder).held run.0;
-      led = run.1;
-    }
+pub returns-in-Err : goal.returns-in-Err
+returns-in-Err g c = record {
+  ok = tt;
+  count = tt;
+  learned = tt;
+  valid = λ is. cc;
+  failed = λ error is.
+      let same : c.in-Err.error ≡ error = cc in
+      c.in-Err.ensures.failed error (ap Err same);
+}
+
+pub returns : goal.returns
+returns g c = record {
+  ok = λ words known.
+          let gives = g.Source.ReadWords.read_gives in
+          let tells = g.Source.ReadWords.tells_upcoming in
+          let law = g.met.Source.ReadWords.reads_upcoming in
+          let start = told-start gives tells law c.args.source (held_by c.in-Ok.decoder).held c.in-Ok.decoder.words c.in-Ok.ensures.ok
+          words known in
+          let bits = all_bits g.row.BITS (map g.Number.WholeNumber.whole c.loop-done.numbers.items) in
+          let run = told-turns gives tells law g.P.Predictor.rows (λ s t. t ≡ s) beq 16
+          (placed g.P.Predictor.next (g.P.Predictor.state c.args.predictor.now) bits) (held_by c.in-Ok.decoder) (held_by c.loop-done.decoder)
+          c.loop-done.invariant.so_far.led start.0 start.2 in
+          record {
+            small = c.loop-done.invariant.small;
+            start = holding (held_by c.in-Ok.decoder).held start.0;
+            begun = start.1;
+            end = holding (held_by c.loop-done.decoder).held run.0;
+            led = run.1;
+          };
+  count = omega (arith, c.loop-done.invariant.counted, c.loop-done-test.false, c.loop-done.auto.done-end);
+  learned = c.loop-done.invariant.so_far.learned;
+  valid = λ is. absurd (no-error _ _ is);
+  failed = λ error is. absurd (no-error _ _ is);
+}
+
+pub returns-in-Err-push : goal.returns-in-Err-push
+returns-in-Err-push g c = record { ok = tt; count = tt; learned = tt; valid = λ is. cc; failed = λ error is. cc }
+
+pub returns-in-Err-decode_number-clause-ok : goal.returns-in-Err-decode_number-clause-ok
+returns-in-Err-decode_number-clause-ok g c = tt
+
+pub returns-in-Err-decode_number-clause-failed : goal.returns-in-Err-decode_number-clause-failed
+returns-in-Err-decode_number-clause-failed g c = λ error is.
+    let same : c.in-Err-decode_number.error ≡ Backend error = cc in
+    let stops = rw same at c.in-Err-decode_number.ensures.err in
+    elim stops.why [
+      | inr none ↦ cc (none.3, none.4)
+      | inl few ↦ read-failed held_by _ _ g.Source.ReadWords.read_gives 16 error stops.reached _ few.1
+    ]
 
 pub returns-in-Err-decode_number-clause-valid : goal.returns-in-Err-decode_number-clause-valid
 returns-in-Err-decode_number-clause-valid g c = λ is numbers words long read known.
