@@ -1,7 +1,12 @@
 -- What the contexts of a mixer say, written in turn.
-use Rattle.std.proofs.Common.{◌≡◌, ◌∙◌, ◌+◌, ℕ, [], List, ap, map, subst, slice_index, slice_index_or}
+use Rattle.std.proofs.Common.{◌≡◌, ◌∙◌, ◌+◌, ◌*◌, ◌^◌, ◌<◌, ◌≤◌, ℕ, arith, [], List, ap, map, subst, slice_index, slice_index_or}
+use Rattle.std.proofs.lemmas.Nat.{mul-le}
 use Rattle.constriction_adaptive.specs.Mixer.{MixerState, places_of, predicted, row, strengths_of}
 use Rattle.constriction_adaptive.specs.Mixing.{mixed, squash, strength}
+
+-- so few inputs of so many bytes each fit in memory
+pub small : (inputs bytes : ℕ) → inputs ≤ 16 → bytes ≤ 8 → inputs * bytes < 2 ^ 63
+small inputs bytes few narrow = omega (arith, mul-le inputs bytes 16 8 few narrow)
 
 -- the strengths, asked at the places of the contexts
 pub strengths_by : (m : MixerState) (slots places strengths : List ℕ) → slots ≡ m.slots → places ≡ places_of m
