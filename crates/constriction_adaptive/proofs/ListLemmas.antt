@@ -20,8 +20,8 @@ set_more P xs i v within before here =
     (rw get_or-set_same here)
 
 -- one element more of those that all have one value
-pub map_more : {A B : Type 0} (f : A → B) (all : List A) (xs : List A) (x : A) (n : ℕ) (v : B) → all ≡ xs ++ x ∷ [] → map f xs ≡ replicate n v
-    → f x ≡ v → map f all ≡ replicate (n + 1) v
+pub map_more : {A B : Type 0} (f : A → B) (all : List A) (xs : List A) (x : A) (n : ℕ) (v : B) → all ≡ xs ++ x ∷ []
+    → map f xs ≡ replicate n v → f x ≡ v → map f all ≡ replicate (n + 1) v
 map_more f all xs x n v is e here =
     ap (map f) is ∙ map_push f xs x ∙ ap (λ ys. ys ++ f x ∷ []) e ∙ ap (λ y. replicate n v ++ y ∷ []) here ∙ replicate_more n v
 

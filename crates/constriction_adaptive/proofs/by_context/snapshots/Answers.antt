@@ -7,7 +7,8 @@ loop-predictor-preserved g c =
     let state = g.P.Predictor.state in
     let i = c.loop-predictor.predictor-index in
     let x = c.predictor-item.result in
-    let more = take_more c.args.predictors.now i x c.loop-predictor-test.true ∙ ap (λ y. take i c.args.predictors.now ++ y ∷ []) (sym c.predictor-item.is) in
+    let more = take_more c.args.predictors.now i x c.loop-predictor-test.true
+    ∙ ap (λ y. take i c.args.predictors.now ++ y ∷ []) (sym c.predictor-item.is) in
     record {
       counted = omega (arith, c.push_reserved.ensures.len, c.loop-predictor.invariant.counted);
       room = c.push_reserved.ensures.capacity ∙ c.loop-predictor.invariant.room;

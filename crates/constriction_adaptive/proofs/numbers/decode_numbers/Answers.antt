@@ -56,22 +56,22 @@ returns-in-Err g c = record {
 pub returns : goal.returns
 returns g c = record {
   ok = λ words known.
-          let gives = g.Source.ReadWords.read_gives in
-          let tells = g.Source.ReadWords.tells_upcoming in
-          let law = g.met.Source.ReadWords.reads_upcoming in
-          let start = told-start gives tells law c.args.source (held_by c.in-Ok.decoder).held c.in-Ok.decoder.words c.in-Ok.ensures.ok
-          words known in
-          let bits = all_bits g.row.BITS (map g.Number.WholeNumber.whole c.loop-done.numbers.items) in
-          let run = told-turns gives tells law g.P.Predictor.rows (λ s t. t ≡ s) beq 16
-          (placed g.P.Predictor.next (g.P.Predictor.state c.args.predictor.now) bits) (held_by c.in-Ok.decoder) (held_by c.loop-done.decoder)
-          c.loop-done.invariant.so_far.led start.0 start.2 in
-          record {
-            small = c.loop-done.invariant.small;
-            start = holding (held_by c.in-Ok.decoder).held start.0;
-            begun = start.1;
-            end = holding (held_by c.loop-done.decoder).held run.0;
-            led = run.1;
-          };
+      let gives = g.Source.ReadWords.read_gives in
+      let tells = g.Source.ReadWords.tells_upcoming in
+      let law = g.met.Source.ReadWords.reads_upcoming in
+      let start = told-start gives tells law c.args.source (held_by c.in-Ok.decoder).held c.in-Ok.decoder.words c.in-Ok.ensures.ok
+      words known in
+      let bits = all_bits g.row.BITS (map g.Number.WholeNumber.whole c.loop-done.numbers.items) in
+      let run = told-turns gives tells law g.P.Predictor.rows (λ s t. t ≡ s) beq 16
+      (placed g.P.Predictor.next (g.P.Predictor.state c.args.predictor.now) bits) (held_by c.in-Ok.decoder) (held_by c.loop-done.decoder)
+      c.loop-done.invariant.so_far.led start.0 start.2 in
+      record {
+        small = c.loop-done.invariant.small;
+        start = holding (held_by c.in-Ok.decoder).held start.0;
+        begun = start.1;
+        end = holding (held_by c.loop-done.decoder).held run.0;
+        led = run.1;
+      };
   count = omega (arith, c.loop-done.invariant.counted, c.loop-done-test.false, c.loop-done.auto.done-end);
   learned = c.loop-done.invariant.so_far.learned;
   valid = λ is. absurd (no-error _ _ is);

@@ -18,11 +18,12 @@ use Rattle.constriction_adaptive.proofs.Runs.{coded-push, stopped, tile-append}
 use Rattle.constriction_adaptive.proofs.numbers.encode_number.Goals as goal
 
 -- a bit that has an entry is not impossible
-no-impossible : {State A E : Type 0} (rows : State → List (Row Bool)) (error : CoderError EncoderFrontendError E) (old new : State) (bit : Bool)
-    (s : Span) → new ≡ old → predicted_entry rows beq new bit ≢ None
+no-impossible : {State A E : Type 0} (rows : State → List (Row Bool)) (error : CoderError EncoderFrontendError E) (old new : State)
+    (bit : Bool) (s : Span) → new ≡ old → predicted_entry rows beq new bit ≢ None
     → IsEncodingFault (entry_at (predicted_entry rows beq)) 16 error (old, bit) s
     → ◌≡◌ {A = Result A (CoderError EncoderFrontendError E)} (Err error) (Err (Frontend ImpossibleSymbol)) → ⊥
-no-impossible rows (Frontend ImpossibleSymbol) old new bit s same some none is = some (ap (λ state. predicted_entry rows beq state bit) same ∙ none)
+no-impossible rows (Frontend ImpossibleSymbol) old new bit s same some none is =
+    some (ap (λ state. predicted_entry rows beq state bit) same ∙ none)
 no-impossible rows (Frontend OutOfMemory) old new bit s same some fault is = cc
 no-impossible rows (Backend error) old new bit s same some fault is = cc
 
@@ -80,7 +81,8 @@ returns-in-Err g c =
     let entry = entry_at (predicted_entry g.P.Predictor.rows beq) in
     let bit : Bool = nat_eq (n / 2 ^ (g.row.BITS - 1 - done) % 2) 1 in
     let split = bits-from g.row.BITS done n c.loop-done-test.true in
-    let possible = no-impossible g.P.Predictor.rows c.in-Err.error _ _ bit _ c.in-Err.ensures.unlearned (c.bits_have_entries.ensures bit) c.in-Err.ensures.fault in
+    let possible = no-impossible g.P.Predictor.rows c.in-Err.error _ _ bit _ c.in-Err.ensures.unlearned
+    (c.bits_have_entries.ensures bit) c.in-Err.ensures.fault in
     record {
       ok = tt;
       tile = tt;
@@ -91,8 +93,8 @@ returns-in-Err g c =
       err = λ other.
           stopped g.P.Predictor.next (λ s. IsNarrowed (entry s) 16) so.0 bit
           (bits_of (g.row.BITS - (done + 1)) n) _ _ _ _ _ _ _
-          (ap (λ k. bits_of g.row.BITS k) (sym c.to_coder_word-bits.ensures) ∙ so.1 ∙ ap (λ bs. so.0 ++ bs) split) so.2 c.in-Err.ensures.fault
-          c.in-Err.ensures.unlearned c.in-Err.ensures.same;
+          (ap (λ k. bits_of g.row.BITS k) (sym c.to_coder_word-bits.ensures) ∙ so.1 ∙ ap (λ bs. so.0 ++ bs) split) so.2
+          c.in-Err.ensures.fault c.in-Err.ensures.unlearned c.in-Err.ensures.same;
     }
 
 pub returns : goal.returns

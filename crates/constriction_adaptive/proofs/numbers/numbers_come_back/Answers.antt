@@ -29,7 +29,8 @@ returns-in-Ok-decode_numbers g c =
     let again = c.in-Ok-decode_numbers.again.items in
     let first = g.P.Predictor.state c.args.decoding.now in
     let known = sym c.new_at_write_beginning-source.ensures.ahead in
-    let read : AreReadFrom g.row.BITS g.P.Predictor.rows next first (map value numbers) words = rw c.requires.one_state c.in-Ok.ensures.read in
+    let read : AreReadFrom g.row.BITS g.P.Predictor.rows next first (map value numbers) words =
+    rw c.requires.one_state c.in-Ok.ensures.read in
     let back = map-once value g.met.Number.WholeNumber.same_law again numbers
     (c.numbers_are_read_once.ensures g.row.BITS first (map value again) (map value numbers) words
     (c.in-Ok-decode_numbers.ensures.ok words known) read
@@ -51,7 +52,8 @@ unreachable-requires g c =
     let value = g.Number.WholeNumber.whole in
     let words = c.in-Ok.words.items in
     let numbers = c.args.numbers.now in
-    let read : AreReadFrom g.row.BITS g.P.Predictor.rows g.P.Predictor.next (g.P.Predictor.state c.args.decoding.now) (map value numbers) words =
+    let first = g.P.Predictor.state c.args.decoding.now in
+    let read : AreReadFrom g.row.BITS g.P.Predictor.rows g.P.Predictor.next first (map value numbers) words =
     rw c.requires.one_state c.in-Ok.ensures.read in
     c.in-Err-Frontend-InvalidData.ensures.valid
     (ap Err (c.in-Err-Frontend-InvalidData.field-0-is ∙ ap Frontend c.in-Err-Frontend-InvalidData.field-0-0-is)) (map value numbers)

@@ -10,21 +10,33 @@ made g c = mixer_state c.args.contexts c.args.groups c.in_ok-slots.slots.items c
 
 pub find_places-requires : goal.find_places-requires
 find_places-requires g c = (
-  small g.row.N 4 c.requires.contexts (omega arith), (
-  small g.row.N 8 c.requires.contexts (omega arith), (
-  c.requires.groups,
-  c.requires.seen,
-)))
+  small g.row.N 4 c.requires.contexts (omega arith),
+  (
+    small g.row.N 8 c.requires.contexts (omega arith),
+    (
+      c.requires.groups,
+      c.requires.seen,
+    ),
+  ),
+)
 
 pub predict-weight-requires : goal.predict-weight-requires
 predict-weight-requires g c = (
-  small g.row.N 4 c.requires.contexts (omega arith), (
-  small g.row.N 8 c.requires.contexts (omega arith), (
-  small g.row.N 2 c.requires.contexts (omega arith), (
-  c.requires.contexts, (
-  ap length c.deref-2.ensures.value ∙ c.in_ok-weights.ensures.many,
-  λ k h. omega (arith, c.find_places.ensures.inside k h, ap length c.deref.ensures.value, c.in_ok-slots.ensures.many),
-)))))
+  small g.row.N 4 c.requires.contexts (omega arith),
+  (
+    small g.row.N 8 c.requires.contexts (omega arith),
+    (
+      small g.row.N 2 c.requires.contexts (omega arith),
+      (
+        c.requires.contexts,
+        (
+          ap length c.deref-2.ensures.value ∙ c.in_ok-weights.ensures.many,
+          λ k h. omega (arith, c.find_places.ensures.inside k h, ap length c.deref.ensures.value, c.in_ok-slots.ensures.many),
+        ),
+      ),
+    ),
+  ),
+)
 
 pub invariant_of-result : goal.invariant_of-result
 invariant_of-result g c =

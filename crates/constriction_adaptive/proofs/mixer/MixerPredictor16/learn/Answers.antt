@@ -16,10 +16,12 @@ learned g c =
 pub adjust_row-requires : goal.adjust_row-requires
 adjust_row-requires g c =
     let self = c.args.self.now in (
-      small g.row.N 4 self.few (omega arith), (
-      small g.row.N 2 self.few (omega arith),
-      omega (arith, c.told-told.ensures.below, c.deref_mut.ensures.len, self.weights.ok.0, self.rows),
-    ))
+      small g.row.N 4 self.few (omega arith),
+      (
+        small g.row.N 2 self.few (omega arith),
+        omega (arith, c.told-told.ensures.below, c.deref_mut.ensures.len, self.weights.ok.0, self.rows),
+      ),
+    )
 
 pub learn-requires : goal.learn-requires
 learn-requires g c = record {
@@ -32,24 +34,40 @@ learn-requires g c = record {
 pub move_on-requires : goal.move_on-requires
 move_on-requires g c =
     let self = c.args.self.now in (
-      small g.row.N 4 self.few (omega arith), (
-      small g.row.N 8 self.few (omega arith), (
-      self.some, (
-      self.seen, (
-      self.places_are,
-      self.inside,
-    )))))
+      small g.row.N 4 self.few (omega arith),
+      (
+        small g.row.N 8 self.few (omega arith),
+        (
+          self.some,
+          (
+            self.seen,
+            (
+              self.places_are,
+              self.inside,
+            ),
+          ),
+        ),
+      ),
+    )
 
 pub predict-self-requires : goal.predict-self-requires
 predict-self-requires g c =
     let self = c.args.self.now in (
-      small g.row.N 4 self.few (omega arith), (
-      small g.row.N 8 self.few (omega arith), (
-      small g.row.N 2 self.few (omega arith), (
-      self.few, (
-      omega (arith, c.deref-2.ensures.len, self.rows, self.weights.ok.0),
-      λ k h. omega (arith, c.move_on.ensures.inside k h, c.deref.ensures.len, self.many, self.slots.ok.0),
-    )))))
+      small g.row.N 4 self.few (omega arith),
+      (
+        small g.row.N 8 self.few (omega arith),
+        (
+          small g.row.N 2 self.few (omega arith),
+          (
+            self.few,
+            (
+              omega (arith, c.deref-2.ensures.len, self.rows, self.weights.ok.0),
+              λ k h. omega (arith, c.move_on.ensures.inside k h, c.deref.ensures.len, self.many, self.slots.ok.0),
+            ),
+          ),
+        ),
+      ),
+    )
 
 pub invariant_of-self : goal.invariant_of-self
 invariant_of-self g c =
