@@ -88,12 +88,17 @@ bits-once (suc width) a b above same =
 -- ---- numbers of one width
 
 module _ (width : ℕ) where
+  -- the bits of numbers after others
+  pub all-bits-append : (xs ys : List ℕ) → all_bits width (xs ++ ys) ≡ all_bits width xs ++ all_bits width ys
+  all-bits-append [] ys = refl
+  all-bits-append (x ∷ xs) ys =
+      ap (λ (bs : List Bool). bits_of width x ++ bs) (all-bits-append xs ys)
+      ∙ sym (append_assoc (bits_of width x) (all_bits width xs) (all_bits width ys))
+
   -- the bits of one number more
   pub all-bits-push : (xs : List ℕ) (x : ℕ) → all_bits width (xs ++ x ∷ []) ≡ all_bits width xs ++ bits_of width x
-  all-bits-push [] x = append-nil (bits_of width x)
-  all-bits-push (y ∷ ys) x =
-      ap (λ (bs : List Bool). bits_of width y ++ bs) (all-bits-push ys x)
-      ∙ sym (append_assoc (bits_of width y) (all_bits width ys) (bits_of width x))
+  all-bits-push xs x =
+      all-bits-append xs (x ∷ []) ∙ ap (λ (bs : List Bool). all_bits width xs ++ bs) (append-nil (bits_of width x))
 
   module _ {Word : Type 0} (number : Word → ℕ) (xs : List Word) (i : ℕ) (x : Word) (less : i < length xs) (is : x ≡ get_or xs i x) where
     one-more : map number (take (i + 1) xs) ≡ map number (take i xs) ++ number x ∷ []

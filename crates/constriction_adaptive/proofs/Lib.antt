@@ -9,6 +9,7 @@ pub mod ListLemmas
 pub mod MessageReading
 pub mod MixerLemmas
 pub mod NumberLemmas
+pub mod NumberRuns
 pub mod PairLemmas
 pub mod ReadOnce
 pub mod Rows

@@ -1,13 +1,13 @@
 //! Bytes by a predictor of their bits, in a range coder: [`numbers`](crate::numbers) of 8 bits.
 
-ghost use Rattle.std.specs.Prelude.{◌≡◌, ◌≢◌, ◌++◌, ◌^◌, ◌<◌, ℕ, Bool, List, Err, All, IfOk, OnOk, IfErr, length, fold};
+ghost use Rattle.std.specs.Prelude.{◌≡◌, ◌≢◌, ◌++◌, ◌^◌, ◌<◌, ℕ, Bool, List, Err, All, IfOk, OnErr, OnOk, IfErr, length, fold};
 ghost use Rattle.std.specs.Allocator.{alloc_error};
 ghost use Rattle.std.specs.Bool.{beq};
 ghost use Rattle.constriction_coders.specs.Places.{entry_at, IsMessageFrom};
 ghost use Rattle.constriction_coders.specs.RangeDecoder.{held_by};
 ghost use Rattle.constriction_coders.specs.Spans.{IsNarrowed};
 ghost use Rattle.constriction_adaptive.specs.Numbers.{all_bits, bits_of, AreReadFrom};
-ghost use Rattle.constriction_adaptive.specs.Predicted.{predicted_entry, AllTile, AreCoded, AdaptiveDecodingStops, AdaptiveEncodingStops, IsEncodingFault, IsReadIn};
+ghost use Rattle.constriction_adaptive.specs.Predicted.{predicted_entry, AllTile, AreCoded, AdaptiveDecodingStops, AdaptiveEncodingStops, FirstAreLearned, IsEncodingFault, IsReadIn};
 
 use crate::bit::Bit;
 use crate::error::EncoderFrontendError;
@@ -94,6 +94,8 @@ where
         AreReadFrom 8 P.rows P.next (P.state predictor.old) bytes.now words.items) }
     ensures learned { OnOk result
         (P.state predictor.new ≡ fold P.next (P.state predictor.old) (all_bits 8 bytes.now)) }
+    ensures err { OnErr result (FirstAreLearned P.next (all_bits 8 bytes.now)
+        (P.state predictor.old) (P.state predictor.new)) }
 {
     match encode_numbers::<P, u8, 8>(alloc, predictor, bytes) {
         Ok(words) => Ok(words),
@@ -176,6 +178,8 @@ where
     ensures learned { OnOk result
         (P.state encoding.new ≡ fold P.next (P.state encoding.old) (all_bits 8 bytes.now)) }
     ensures one_state { OnOk result (P.state decoding.new ≡ P.state encoding.new) }
+    ensures err { OnErr result (FirstAreLearned P.next (all_bits 8 bytes.now)
+        (P.state encoding.old) (P.state encoding.new)) }
 {
     match numbers_come_back::<P, u8, 8>(alloc, encoding, decoding, bytes) {
         Ok(again) => Ok(again),

@@ -1,14 +1,14 @@
 //! Numbers of a width by a predictor of their bits, in a range coder: samples, or bytes
 //! ([`bytes`](crate::bytes)).
 
-ghost use Rattle.std.specs.Prelude.{◌≡◌, ◌≢◌, ◌++◌, ◌^◌, ◌<◌, ◌≤◌, ℕ, Bool, List, None, Err, All, IfOk, OnOk, IfErr, length, fold, map};
+ghost use Rattle.std.specs.Prelude.{◌≡◌, ◌≢◌, ◌++◌, ◌^◌, ◌<◌, ◌≤◌, ℕ, Bool, List, None, Err, All, IfOk, OnErr, OnOk, IfErr, length, fold, map};
 ghost use Rattle.std.specs.Allocator.{alloc_error};
 ghost use Rattle.std.specs.Bool.{beq};
 ghost use Rattle.constriction_coders.specs.Places.{entry_at, IsMessageFrom};
 ghost use Rattle.constriction_coders.specs.RangeDecoder.{held_by};
 ghost use Rattle.constriction_coders.specs.Spans.{IsNarrowed};
-ghost use Rattle.constriction_adaptive.specs.Numbers.{all_bits, bits_of, AreReadFrom};
-ghost use Rattle.constriction_adaptive.specs.Predicted.{predicted_entry, AllTile, AreCoded, AdaptiveDecodingStops, AdaptiveEncodingStops, IsEncodingFault, IsReadIn};
+ghost use Rattle.constriction_adaptive.specs.Numbers.{all_bits, bits_of, AreReadFrom, NumberEncodingStops};
+ghost use Rattle.constriction_adaptive.specs.Predicted.{predicted_entry, AllTile, AreCoded, AdaptiveDecodingStops, AdaptiveEncodingStops, FirstAreLearned, IsEncodingFault, IsReadIn};
 
 use crate::bit::Bit;
 use crate::decoding::decode_next;
@@ -148,6 +148,8 @@ where
         ≡ fold P.next (P.state predictor.old) (all_bits BITS (map Number.whole numbers.now))) }
     ensures large { result ≡ Err (CoderError.Frontend EncoderFrontendError.ImpossibleSymbol)
         → ¬ (All (λ n. n < 2 ^ BITS) (map Number.whole numbers.now)) }
+    ensures err { IfErr result (λ error. NumberEncodingStops BITS P.next
+        (map Number.whole numbers.now) error (P.state predictor.old) (P.state predictor.new)) }
 {
     let mut encoder = RangeEncoder::new(alloc);
     for number in numbers {
@@ -299,6 +301,9 @@ where
     ensures one_state { OnOk result (P.state decoding.new ≡ P.state encoding.new) }
     ensures large { result ≡ Err EncoderFrontendError.ImpossibleSymbol
         → ¬ (All (λ n. n < 2 ^ BITS) (map Number.whole numbers.now)) }
+    ensures err { OnErr result
+        (FirstAreLearned P.next (all_bits BITS (map Number.whole numbers.now))
+        (P.state encoding.old) (P.state encoding.new)) }
 {
     numbers_are_read_once::<P>();
     let words = match encode_numbers::<P, Number, BITS>(alloc, encoding, numbers) {

@@ -9,9 +9,10 @@ use Rattle.constriction_coders.proofs.Outcomes.{no-error}
 use Rattle.constriction_coders.specs.Places.{entry_at}
 use Rattle.constriction_coders.specs.Spans.{Span, whole, IsNarrowed}
 use Rattle.constriction_adaptive.specs.Numbers.{all_bits, bits_of, AreReadFrom}
-use Rattle.constriction_adaptive.specs.Predicted.{predicted_entry, AllTile, AreCoded}
+use Rattle.constriction_adaptive.specs.Predicted.{predicted_entry, AllTile, AreCoded, IsEncodingFault}
 use Rattle.constriction_adaptive.proofs.Bits.{all-bits-take, small-at, small-take}
 use Rattle.constriction_adaptive.proofs.MessageReading.{message-read}
+use Rattle.constriction_adaptive.proofs.NumberRuns.{number-stops}
 use Rattle.constriction_adaptive.proofs.Runs.{coded-append, tile-append}
 use Rattle.constriction_adaptive.proofs.numbers.encode_numbers.Goals as goal
 
@@ -51,6 +52,12 @@ returns-in-Err g c = record {
       c.loop-number-test.true c.number-item.is small in
       let same : c.in-Err.error ≡ Frontend ImpossibleSymbol = cc in
       omega (arith, fits, c.in-Err.ensures.large (ap Err same));
+  err =
+          number-stops g.P.Predictor.next g.row.BITS g.Number.WholeNumber.whole c.args.numbers.now c.loop-number.number-index
+          c.number-item.result c.loop-number-test.true c.number-item.is (g.P.Predictor.state c.args.predictor.now) _
+          c.loop-number.invariant.so_far.learned (λ s. IsNarrowed (entry_at (predicted_entry g.P.Predictor.rows beq) s) 16)
+          (IsEncodingFault (entry_at (predicted_entry g.P.Predictor.rows beq)) 16 c.in-Err.error) _ _ _ c.in-Err.error c.loop-number.invariant.small
+          (λ same. c.in-Err.ensures.large (ap Err same)) (λ same. c.in-Err.ensures.unlearned (ap Err same)) c.in-Err.ensures.err;
 }
 
 pub returns-in-Ok-into_compressed : goal.returns-in-Ok-into_compressed
@@ -77,7 +84,5 @@ returns-in-Ok-into_compressed g c =
           (c.loop-number.encoder, coded.led, c.in-Ok-into_compressed.ensures.ok) (All-nil (λ w. w < 2 ^ 32)) tile);
       learned = coded.learned;
       large = λ is. absurd (no-error _ _ is);
+      err = tt;
     }
-
-pub returns-in-Err-into_compressed : goal.returns-in-Err-into_compressed
-returns-in-Err-into_compressed g c = record { ok = tt; read = tt; learned = tt; large = λ is. cc }
