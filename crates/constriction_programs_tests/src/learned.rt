@@ -3,6 +3,9 @@
 ghost use Rattle.std.specs.Prelude.{◌≡◌, ◌<◌, ℕ, List, OnSome, fold, refl};
 ghost use Rattle.constriction.specs.Rows.{Row};
 ghost use Rattle.constriction_adaptive.specs.Categorical.{even_lefts};
+ghost use Rattle.constriction_adaptive.specs.Predicted.{predicted_entry, AreStacked};
+ghost use Rattle.constriction_coders.specs.AnsCoder.{held_by};
+ghost use Rattle.constriction_coders.specs.Places.{entry_at};
 
 use crate::checks::{holds, same};
 use constriction::backends::Cursor;
@@ -140,6 +143,42 @@ fn letters_come_back_from_a_stack(rt: HostRuntime) {
         Err(_) => panic!(rt; "nothing came back"),
     }
     same(&rt, coder.is_empty(), true);
+}
+
+/// A caller knows from the contract that the symbols of a `Vec` are learned and encoded.
+fn on_a_stack<P, const PRECISION: usize>(
+    alloc: Global,
+    predictor: &mut P,
+    symbols: Vec<P::Symbol>,
+    coder: &mut AnsCoder<Vec<u32>>,
+) -> Option<()>
+where
+    P: Predictor<PRECISION>,
+    P::Symbol: Drop,
+    ensures { OnSome result
+        (AreStacked P.next (entry_at (predicted_entry P.rows P.Model.symbol_eq)) PRECISION
+        symbols.items (P.state predictor.old) (held_by coder.old) (P.state predictor.new)
+        (held_by coder.new)) }
+{
+    match stack::encode_adaptively_from_iter(alloc, predictor, symbols, coder) {
+        Ok(()) => Some(()),
+        Err(_) => None,
+    }
+}
+
+#[test]
+fn letters_of_a_vec_are_learned(rt: HostRuntime) {
+    let alloc = rt.alloc();
+    let this = letters(&rt, alloc, [1, 2, 61]);
+    let mut encoding = ByTurns {
+        this: &this,
+        other: &this,
+        room: 9,
+    };
+    let symbols = SYMBOLS.to_vec(alloc).expect(&rt, "memory");
+    let mut coder = AnsCoder::new(alloc);
+    let encoded = on_a_stack(alloc, &mut encoding, symbols, &mut coder);
+    same(&rt, (encoded, encoding.room), (Some(()), 2));
 }
 
 #[test]
