@@ -1,4 +1,4 @@
-use Rattle.std.proofs.Common.{◌≡◌, true, false, List, Option, IfSome, ap, set, sym, subst, ◌∙◌, arith, get_or-set_same}
+use Rattle.std.proofs.Common.{◌≡◌, true, false, List, Option, IfSome, ap, map, set, sym, subst, ◌∙◌, arith, get_or-set_same}
 use Rattle.std.proofs.lemmas.List.{length-set}
 use Rattle.std.proofs.lemmas.Result.{IfOk-weaker}
 use Rattle.constriction_model.specs.Rows.{RowsTile}
@@ -6,6 +6,32 @@ use Rattle.constriction_adaptive.specs.ByContext.{state_of}
 use Rattle.constriction_adaptive.specs.Pair.{pair_state, rows_of_side, without_symbols}
 use Rattle.constriction_adaptive.proofs.ByContextLemmas.{item-found, states-stay}
 use Rattle.constriction_adaptive.proofs.pair.PairPredictor.reserve.Goals as goal
+
+pub invariant_of-self : goal.invariant_of-self
+invariant_of-self g c =
+    let m = c.args.self.now in
+    let right = state_of (map g.B.Predictor.state m.rights.items) (g.C.Context.state m.context) in
+    record {
+      each = m.each;
+      precise = m.precise;
+      tile = subst (λ (s : g.A.Predictor.State). RowsTile 32 g.row.PRECISION
+          (without_symbols (rows_of_side g.A.Predictor.rows g.B.Predictor.rows g.C.Context.number (pair_state s right m.is_right))))
+          (sym c.reserve.ensures.same) m.tile;
+    }
+
+pub returns-then-not-self : goal.returns-then-not-self
+returns-then-not-self g c =
+    let m = c.args.self.now in
+    record {
+      ready =
+          IfOk-weaker c.reserve.result _ _
+          (λ _ ready. (λ _. ready, λ h. absurd (let wrong : false ≡ true = sym c.if-not-self.true ∙ h in cc)))
+          c.reserve.ensures.ready;
+      same =
+          ap (λ (s : g.A.Predictor.State).
+          pair_state s (state_of (map g.B.Predictor.state m.rights.items) (g.C.Context.state m.context)) m.is_right)
+          c.reserve.ensures.same;
+    }
 
 pub invariant_of-self-2 : goal.invariant_of-self-2
 invariant_of-self-2 g c =
