@@ -17,8 +17,8 @@ returns-in-Err-Frontend g c = record {
       let same : c.in-Err-Frontend.error ≡ ImpossibleSymbol = cc in
       c.in-Err-Frontend.ensures.large (ap Err (c.in-Err-Frontend.field-0-is ∙ ap Frontend same));
   err =
-          stops-learned g.P.Predictor.next g.row.BITS (map g.Number.WholeNumber.whole c.args.numbers.now) c.in-Err-Frontend.field-0
-          (g.P.Predictor.state c.args.encoding.now) (g.P.Predictor.state c.encode_numbers.new.predictor) c.in-Err-Frontend.ensures.err;
+      stops-learned g.P.Predictor.next g.row.BITS (map g.Number.WholeNumber.whole c.args.numbers.now) c.in-Err-Frontend.field-0
+      (g.P.Predictor.state c.args.encoding.now) (g.P.Predictor.state c.encode_numbers.new.predictor) c.in-Err-Frontend.ensures.err;
 }
 
 pub returns-in-Err-Backend : goal.returns-in-Err-Backend
