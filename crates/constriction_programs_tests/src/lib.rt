@@ -14,6 +14,8 @@ mod checks;
 #[cfg(test)]
 mod contexts;
 #[cfg(test)]
+mod frames;
+#[cfg(test)]
 mod known;
 #[cfg(test)]
 mod learned;

@@ -2,7 +2,7 @@
 //! short enough, and laws of files.
 
 use crate::checks::{holds, same};
-use crate::packed_files::{RARE, THREE, front, is_refused, three_blocks};
+use crate::packed_files::{RARE, THREE, VERSES, WEIGHTED, front, is_refused, three_blocks};
 use crate::runs::{SlowReader, SlowWriter};
 use constriction_pack::laws::{
     block_comes_back, block_once, changed_byte_is_refused, file_comes_back, nothing_follows,
@@ -10,20 +10,18 @@ use constriction_pack::laws::{
 };
 use constriction_pack::{Kind, Level, PackError, pack, pack_block, unpack, unpack_block};
 use std::alloc::Global;
+use std::process::Abort;
 
 /// One byte more than a block holds makes two blocks.
 #[test]
 fn two_blocks_come_back(rt: HostRuntime) {
     let mut bytes = Vec::new(rt.alloc());
-    for place in 0..1_048_577usize {
+    for place in 0..8_388_609usize {
         bytes.push((place % 251) as u8).expect(&rt, "memory");
     }
     let again = file_comes_back(rt.alloc(), Level::Fast, &bytes).expect(&rt, "memory");
     holds(&rt, &again, &bytes);
 }
-
-/// The content of `RARE`.
-const CONTENT: &[u8] = b"\x40\x00\x00\x00\x01\x99\xd9\x03\xe5\x26\x88\x01\xec\xee";
 
 /// Contents that no block has: of the kind `Repeated` no bytes, too many, and a byte more; of the
 /// kind `Weighted` nothing, no bytes, 2^23 + 1, 2^32 - 1 and 50 of them, a weight that is cut, one
@@ -57,12 +55,8 @@ const WRONG_CONTENTS: [(Kind, &[u8]); 12] = [
 
 #[test]
 fn wrong_contents_are_refused(rt: HostRuntime) {
-    let bytes = unpack_block(rt.alloc(), Kind::Weighted, CONTENT).expect(&rt, "the block");
+    let bytes = unpack_block(rt.alloc(), Kind::Weighted, WEIGHTED).expect(&rt, "the block");
     holds(&rt, &bytes, RARE);
-    let made = pack_block(rt.alloc(), Level::Fast, RARE).expect(&rt, "memory");
-    let (kind, content) = made.expect(&rt, "a shorter content");
-    same(&rt, kind, Kind::Weighted);
-    holds(&rt, &content, CONTENT);
     for each in &WRONG_CONTENTS {
         let error = unpack_block(rt.alloc(), each.0, each.1).err();
         same(&rt, error, Some(PackError::Damaged));
@@ -113,16 +107,109 @@ fn readers_fail(rt: HostRuntime) {
         same(&rt, result, expected);
         holds(&rt, &written, front(&bytes, count));
     }
-    let zeros = vec![in alloc; 0u8; 1_048_600].expect(&rt, "memory");
-    let (result, written) = packed_slowly(alloc, &zeros, 1_048_590);
+    let zeros = vec![in alloc; 0u8; 8_388_640].expect(&rt, "memory");
+    let (result, written) = packed_slowly(alloc, &zeros, 8_388_625);
     same(&rt, result, Err(PackError::Read));
     is_refused(
         &rt,
         alloc,
         &written,
         PackError::Cut,
-        front(&zeros, 1_048_576),
+        front(&zeros, 8_388_608),
     );
+}
+
+/// How long the packed file of bytes is.
+fn packed_length(rt: &impl Abort, alloc: Global, level: Level, mut bytes: &[u8]) -> usize {
+    let mut packed = Vec::new(alloc);
+    same(rt, pack(alloc, level, &mut bytes, &mut packed), Ok(()));
+    packed.len()
+}
+
+/// How many zeros there are, and how long their packed file is: a block of 8,388,608 is not
+/// followed by an empty one.
+const ZEROS: [(usize, usize); 4] = [(5, 26), (7, 26), (8_388_608, 26), (8_388_609, 40)];
+
+#[test]
+fn zeros_take_few_bytes(rt: HostRuntime) {
+    for each in &ZEROS {
+        let (count, length) = *each;
+        let bytes = vec![in rt.alloc(); 0u8; count].expect(&rt, "memory");
+        same(
+            &rt,
+            packed_length(&rt, rt.alloc(), Level::Fast, &bytes),
+            length,
+        );
+        let again = file_comes_back(rt.alloc(), Level::Fast, &bytes).expect(&rt, "memory");
+        holds(&rt, &again, &bytes);
+    }
+}
+
+/// How long the file of 2^24 zeros and the verses is at each level.
+const LENGTHS: [(Level, usize); 3] = [
+    (Level::Fast, 206),
+    (Level::Default, 212),
+    (Level::Best, 169),
+];
+
+#[test]
+fn files_of_several_blocks_have_these_lengths(rt: HostRuntime) {
+    let mut bytes = vec![in rt.alloc(); 0u8; 16_777_216].expect(&rt, "memory");
+    bytes.extend_from_slice(VERSES).expect(&rt, "memory");
+    for each in &LENGTHS {
+        let length = packed_length(&rt, rt.alloc(), each.0, &bytes);
+        same(&rt, length, each.1);
+    }
+}
+
+const WORDS: [&[u8]; 16] = [
+    b"the ",
+    b"bytes ",
+    b"of ",
+    b"a ",
+    b"block ",
+    b"come ",
+    b"back, ",
+    b"and ",
+    b"no ",
+    b"other ",
+    b"word ",
+    b"is ",
+    b"written ",
+    b"before ",
+    b"it.\n",
+    b"Then ",
+];
+
+/// So many words that come by chance.
+fn words(rt: &impl Abort, alloc: Global, count: usize) -> Vec<u8> {
+    let mut text = Vec::new(alloc);
+    let mut state = 1u32;
+    for _ in 0..count {
+        state = state.wrapping_mul(1_664_525).wrapping_add(1_013_904_223);
+        let word = WORDS[(state / 65_536 % 16) as usize];
+        text.extend_from_slice(word).expect(rt, "memory");
+    }
+    text
+}
+
+#[test]
+fn a_text_is_the_shorter_the_more_a_level_tries(rt: HostRuntime) {
+    let text = words(&rt, rt.alloc(), 20_000);
+    let fast = packed_length(&rt, rt.alloc(), Level::Fast, &text);
+    let default = packed_length(&rt, rt.alloc(), Level::Default, &text);
+    let best = packed_length(&rt, rt.alloc(), Level::Best, &text);
+    same(&rt, best < default && default < fast, true);
+}
+
+#[test]
+fn one_byte_again_and_again_is_repeated(rt: HostRuntime) {
+    for level in [Level::Fast, Level::Default, Level::Best] {
+        let made = pack_block(rt.alloc(), level, &[7; 300]).expect(&rt, "memory");
+        let (kind, content) = made.expect(&rt, "a shorter content");
+        same(&rt, kind, Kind::Repeated);
+        holds(&rt, &content, b"\x2c\x01\0\0\x07");
+    }
 }
 
 /// They do nothing; their contracts are what a caller needs them for.
