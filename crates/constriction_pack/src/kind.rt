@@ -21,11 +21,11 @@ pub enum Kind {
     FewContexts,
     /// 4: the same by a `Mixer` of six contexts.
     ManyContexts,
-    /// 5: parts to the content's end, each of at most 2^18 bytes of the block. A part has how many
-    /// literals and how many sequences it has, in four bytes each, and six
-    /// [planes](crate::plane): the literals; and of each [`Sequence`] how many literals it takes,
-    /// how many bytes it copies, and the three bytes of its number. It begins with the recent
-    /// distances that the part before it left.
+    /// 5: parts to the content's end, each of at most 2^18 bytes of the block, and of at least one
+    /// for each of its sequences. A part has how many literals and how many sequences it has, in
+    /// four bytes each, and six [planes](crate::plane): the literals; and of each [`Sequence`] how
+    /// many literals it takes, how many bytes it copies, and the three bytes of its number. It
+    /// begins with the recent distances that the part before it left.
     ///
     /// [`Sequence`]: constriction_matches::Sequence
     Matched,
