@@ -5,8 +5,8 @@ use crate::checks::{holds, same};
 use crate::packed_files::{RARE, THREE, VERSES, WEIGHTED, front, is_refused, three_blocks};
 use crate::runs::{SlowReader, SlowWriter};
 use constriction_pack::laws::{
-    block_comes_back, block_once, changed_byte_is_refused, file_comes_back, nothing_follows,
-    packed_once,
+    block_comes_back, block_once, changed_byte_is_refused, file_comes_back, matches_are_bounded,
+    nothing_follows, packed_once,
 };
 use constriction_pack::{Kind, Level, PackError, pack, pack_block, unpack, unpack_block};
 use std::alloc::Global;
@@ -219,4 +219,5 @@ fn laws_of_files_may_be_called() {
     packed_once();
     nothing_follows();
     changed_byte_is_refused();
+    matches_are_bounded();
 }
