@@ -1,7 +1,7 @@
-set terminal svg size 760,1646 font "Helvetica,12" background "white" noenhanced
+set terminal svg size 760,1583 font "Helvetica,12" background "white" noenhanced
 set output "docs/pictures/speed-ratios.svg"
-set label 8 "The time of each kernel, over that of the other side" at screen 0.03, screen 0.98542 font "Helvetica Bold,14"
-set label 9 "A dot for each number of rows; those above 1.1 are orange. Each part has a scale of its own." at screen 0.03, screen 0.97266 textcolor "#57606a"
+set label 8 "The time of each kernel, over that of the other side" at screen 0.03, screen 0.98484 font "Helvetica Bold,14"
+set label 9 "A dot for each number of rows; those above 1.1 are orange. Each part has a scale of its own." at screen 0.03, screen 0.97157 textcolor "#57606a"
 set border 0; set tics scale 0 textcolor "#57606a"; set grid lc "#d0d7de" lt 1 lw 1
 set logscale x; unset key; set lmargin at screen 0.44; set rmargin at screen 0.8
 set multiplot
@@ -101,8 +101,8 @@ $part0 << end
 27 1.000 "callback write" ""
 28 1.000 "fallible callback write" ""
 end
-set tmargin at screen 0.93317; set bmargin at screen 0.56318
-set label 1 "The same work on both sides" at screen 0.03, screen 0.94289 font "Helvetica Bold,13"
+set tmargin at screen 0.93051; set bmargin at screen 0.54580
+set label 1 "The same work on both sides" at screen 0.03, screen 0.94062 font "Helvetica Bold,13"
 set xtics ("0.2" 0.2, "0.5" 0.5, "1" 1, "2" 2, "5" 5, "10" 10, "20" 20, "50" 50, "100" 100, "200" 200, "500" 500); set xrange [0.436:2.399]
 set yrange [28.5:-0.5]; set arrow 1 from 1, graph 0 to 1, graph 1 nohead lc "#1f2328" lw 1.5
 plot $part0 using 2:1:($2 > 1.1 ? 0xb35900 : 0x2f6fb0):ytic(3) with points pt 7 ps 0.7 lc rgb variable, \
@@ -130,8 +130,8 @@ $part1 << end
 2 0.508 "to_generic_encoder_model" ""
 2 0.518 "to_generic_encoder_model" ""
 end
-set tmargin at screen 0.51458; set bmargin at screen 0.47631
-set label 1 "The same work, with another hash" at screen 0.03, screen 0.52430 font "Helvetica Bold,13"
+set tmargin at screen 0.49526; set bmargin at screen 0.45546
+set label 1 "The same work, with another hash" at screen 0.03, screen 0.50537 font "Helvetica Bold,13"
 set xtics ("0.2" 0.2, "0.5" 0.5, "1" 1, "2" 2, "5" 5, "10" 10, "20" 20, "50" 50, "100" 100, "200" 200, "500" 500); set xrange [0.423:1.315]
 set yrange [2.5:-0.5]; set arrow 1 from 1, graph 0 to 1, graph 1 nohead lc "#1f2328" lw 1.5
 plot $part1 using 2:1:($2 > 1.1 ? 0xb35900 : 0x2f6fb0):ytic(3) with points pt 7 ps 0.7 lc rgb variable, \
@@ -150,13 +150,11 @@ $part2 << end
 4 0.993 "range coder encode_symbol" ""
 5 0.943 "range coder decode_symbol" ""
 5 0.944 "range coder decode_symbol" ""
-6 0.927 "pack_block of text" ""
-7 0.902 "pack_block of random bytes" ""
 end
-set tmargin at screen 0.42770; set bmargin at screen 0.32564
-set label 1 "The same work, which this project wrote out for both sides" at screen 0.03, screen 0.43742 font "Helvetica Bold,13"
+set tmargin at screen 0.40493; set bmargin at screen 0.32533
+set label 1 "The same work, which this project wrote out for both sides" at screen 0.03, screen 0.41503 font "Helvetica Bold,13"
 set xtics ("0.2" 0.2, "0.5" 0.5, "1" 1, "2" 2, "5" 5, "10" 10, "20" 20, "50" 50, "100" 100, "200" 200, "500" 500); set xrange [0.691:1.202]
-set yrange [7.5:-0.5]; set arrow 1 from 1, graph 0 to 1, graph 1 nohead lc "#1f2328" lw 1.5
+set yrange [5.5:-0.5]; set arrow 1 from 1, graph 0 to 1, graph 1 nohead lc "#1f2328" lw 1.5
 plot $part2 using 2:1:($2 > 1.1 ? 0xb35900 : 0x2f6fb0):ytic(3) with points pt 7 ps 0.7 lc rgb variable, \
     "" using 2:1:4 with labels left offset 1, 0 textcolor "#b35900"
 unset label 8; unset label 9
@@ -201,12 +199,11 @@ $part3 << end
 6 1.163 "decoder of symbols made, in order" ""
 7 65.015 "to_generic_decoder_model" ""
 7 912.153 "to_generic_decoder_model" "912 at 4,096 rows"
-8 0.811 "unpack_block of text" ""
 end
-set tmargin at screen 0.27704; set bmargin at screen 0.16221
-set label 1 "Other work here, by a rule: repeats are refused, or a table has fewer slots" at screen 0.03, screen 0.28676 font "Helvetica Bold,13"
+set tmargin at screen 0.27479; set bmargin at screen 0.16867
+set label 1 "Other work here, by a rule: repeats are refused, or a table has fewer slots" at screen 0.03, screen 0.28490 font "Helvetica Bold,13"
 set xtics ("0.1" 0.1, "1" 1, "10" 10, "100" 100, "1,000" 1000); set xrange [0.469:2845.956]
-set yrange [8.5:-0.5]; set arrow 1 from 1, graph 0 to 1, graph 1 nohead lc "#1f2328" lw 1.5
+set yrange [7.5:-0.5]; set arrow 1 from 1, graph 0 to 1, graph 1 nohead lc "#1f2328" lw 1.5
 plot $part3 using 2:1:($2 > 1.1 ? 0xb35900 : 0x2f6fb0):ytic(3) with points pt 7 ps 0.7 lc rgb variable, \
     "" using 2:1:4 with labels left offset 1, 0 textcolor "#b35900"
 unset label 8; unset label 9
@@ -238,8 +235,8 @@ $part4 << end
 6 0.276 "stack coder decode_symbol, 4,096-slot lookup" ""
 6 0.344 "stack coder decode_symbol, 4,096-slot lookup" ""
 end
-set tmargin at screen 0.11361; set bmargin at screen 0.02430
-set label 1 "A lookup table, which the Rust crate lacks, beside its search" at screen 0.03, screen 0.12333 font "Helvetica Bold,13"
+set tmargin at screen 0.11813; set bmargin at screen 0.02527
+set label 1 "A lookup table, which the Rust crate lacks, beside its search" at screen 0.03, screen 0.12824 font "Helvetica Bold,13"
 set xtics ("0.1" 0.1, "1" 1, "10" 10, "100" 100, "1,000" 1000); set xrange [0.126:535.679]
 set yrange [6.5:-0.5]; set arrow 1 from 1, graph 0 to 1, graph 1 nohead lc "#1f2328" lw 1.5
 plot $part4 using 2:1:($2 > 1.1 ? 0xb35900 : 0x2f6fb0):ytic(3) with points pt 7 ps 0.7 lc rgb variable, \
