@@ -29,6 +29,8 @@ PARTS = (
 )
 # The loop that each kernel has too, which is no measurement of its own.
 LOOP = "nothing but the loop"
+# Kernels of calls whose names the Rust crate lacks.
+OTHER_NAMES = re.compile(r".*(direct|known to differ|_of_distinct)")
 # What kernels do, and how their names begin: the first that fits counts.
 SUBJECTS = (
     ("a byte, by a table", "direct table "),
@@ -159,13 +161,17 @@ def wrapped(text):
 
 
 def summary(saved):
-    """Returns the sentence of the README: of the same work on both sides, at any number of rows."""
-    same = sorted(part_of(saved, PARTS[0][1]), key=ratio)
-    few = sum(round(ratio(it), 2) <= 1.1 for it in same)
+    """Returns the sentences of the README: of calls of the same name on both sides, by their work, and of calls of other names."""
+    same, found = part_of(saved, PARTS[0][1]), lambda sides: ratio_text(max(part_of(saved, sides), key=ratio))
+    named = sorted((it for it in same if not OTHER_NAMES.match(it["name"])), key=ratio)
+    others = [it for it in same if OTHER_NAMES.match(it["name"])]
+    few = sum(round(ratio(it), 2) <= 1.1 for it in named)
     return wrapped(
-        f"Of {len(same)} measurements of the same work on both sides, half take at most {ratio_text(same[len(same) // 2])} times as long as "
-        f"the Rust crate, {few} at most 1.1 times, and the slowest, `{same[-1]['name']}`, {ratio_text(same[-1])} times "
-        "([SPEED](docs/SPEED.md))."
+        f"Of {len(named)} measurements of calls that do the work of the Rust crate's call of the same name, half take at most "
+        f"{ratio_text(named[len(named) // 2])} times as long, {few} at most 1.1 times, and the slowest, `{named[-1]['name']}`, "
+        f"{ratio_text(named[-1])} times. Where the same name does other work, it takes longer: a decoder that compares its symbols up to "
+        f"{found(('repeats',))} times, a lookup model of fewer slots up to {found(('slots',))}. The Rust crate's work under other names takes "
+        f"at most {ratio_text(max(others, key=ratio))} times as long ([SPEED](docs/SPEED.md))."
     )
 
 
