@@ -162,16 +162,16 @@ def wrapped(text):
 
 def summary(saved):
     """Returns the sentences of the README: of calls of the same name on both sides, by their work, and of calls of other names."""
-    same, found = part_of(saved, PARTS[0][1]), lambda sides: ratio_text(max(part_of(saved, sides), key=ratio))
+    same, most = part_of(saved, PARTS[0][1]), lambda these: ratio_text(max(these, key=ratio))
     named = sorted((it for it in same if not OTHER_NAMES.match(it["name"])), key=ratio)
     others = [it for it in same if OTHER_NAMES.match(it["name"])]
     few = sum(round(ratio(it), 2) <= 1.1 for it in named)
     return wrapped(
-        f"Of {len(named)} measurements of calls that do the work of the Rust crate's call of the same name, half take at most "
+        f"Of {len(named)} measurements of calls that do what the Rust crate's of the same name do, half take at most "
         f"{ratio_text(named[len(named) // 2])} times as long, {few} at most 1.1 times, and the slowest, `{named[-1]['name']}`, "
-        f"{ratio_text(named[-1])} times. Where the same name does other work, it takes longer: a decoder that compares its symbols up to "
-        f"{found(('repeats',))} times, a lookup model of fewer slots up to {found(('slots',))}. The Rust crate's work under other names takes "
-        f"at most {ratio_text(max(others, key=ratio))} times as long ([SPEED](docs/SPEED.md))."
+        f"{ratio_text(named[-1])} times. Where they do other work, constructors that compare symbols take up to "
+        f"{most(part_of(saved, ('repeats',)))} times as long, and lookups by fewer slots {most(part_of(saved, ('slots',)))} times. Its work "
+        f"under other names takes at most {most(others)} times as long ([SPEED](docs/SPEED.md))."
     )
 
 
