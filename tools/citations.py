@@ -4,7 +4,10 @@ import re
 from sources import WORD, indent_of, plain
 
 # The crates that a caller's line of crates.txt lists. Of the others a caller knows what these pass on.
-LISTED = tuple("constriction_" + it for it in ("words", "backends", "client", "theorem", "io", "text", "stored_weights", "coders", "adaptive", "pack")) + ("constriction",)
+LISTED = ("constriction",) + tuple(
+    f"constriction_{it}"
+    for it in "words backends client theorem io text stored_weights coders tables adaptive matches pack".split()
+)
 # Types of which a member of a trait is read too: of the kit, and without fields. The members of probes are read of all types.
 PLAIN = ("u8", "Vec", "Cumulative", "CumulativeAndSymbol")
 NAME_OF_TYPE = re.compile(r"\b[A-Z]\w*")
