@@ -169,9 +169,9 @@ def summary(saved):
     return wrapped(
         f"Of {len(named)} measurements of calls that do what the Rust crate's of the same name do, half take at most "
         f"{ratio_text(named[len(named) // 2])} times as long, {few} at most 1.1 times, and the slowest, `{named[-1]['name']}`, "
-        f"{ratio_text(named[-1])} times. Where they do other work, constructors that compare symbols take up to "
-        f"{most(part_of(saved, ('repeats',)))} times as long, and lookups by fewer slots {most(part_of(saved, ('slots',)))} times. Its work "
-        f"under other names takes at most {most(others)} times as long ([SPEED](docs/SPEED.md))."
+        f"{ratio_text(named[-1])} times. Those that do other work take longer: constructors that compare symbols up to "
+        f"{most(part_of(saved, ('repeats',)))} times, lookups by fewer slots up to {most(part_of(saved, ('slots',)))} times. The Rust crate's "
+        f"work under other names takes at most {most(others)} times as long ([SPEED](docs/SPEED.md))."
     )
 
 
