@@ -6,6 +6,7 @@ pub mod Entries
 pub mod LastSymbolsLemmas
 pub mod LeftsLemmas
 pub mod ListLemmas
+pub mod MessageErrors
 pub mod MessageReading
 pub mod MixerLemmas
 pub mod NumberLemmas

@@ -77,7 +77,7 @@ where
 /// Decodes a message of `count` symbols from a source, which may have other words after it.
 ///
 /// If the source tells the words of as many symbols from the state of the predictor on, these come
-/// back, and the words are not invalid.
+/// back, and the words are not invalid. Memory for all symbols is asked for first.
 pub fn decode_message<P, Source, const PRECISION: usize>(
     alloc: Global,
     predictor: &mut P,

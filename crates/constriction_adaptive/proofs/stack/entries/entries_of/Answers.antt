@@ -1,4 +1,4 @@
-use Rattle.std.proofs.Common.{Err, List, ap, map, subst, arith}
+use Rattle.std.proofs.Common.{Err, List, [], fold, ap, map, refl, subst, ◌∙◌, arith}
 use Rattle.std.specs.List.{AllZip}
 use Rattle.std.proofs.lemmas.List.{take_all}
 use Rattle.constriction_coders.specs.Places.{placed, entry_at}
@@ -16,17 +16,30 @@ loop-symbol-preserved g c =
     (map g.K.StoredEntry.kept c.loop-symbol.entries.items) kept.0 _ c.loop-symbol.invariant.so_far kept.1 c.in-Ok-predict_and_keep.ensures.learned in
     record { so_far = rw kept.2 both.0; learned = both.1 }
 
-pub returns-in-Err-clause-err : goal.returns-in-Err-clause-err
-returns-in-Err-clause-err g c =
-    stops-predicting g.P.Predictor.next c.args.symbols.now c.loop-symbol.symbol-index c.symbol-item.result c.loop-symbol-test.true
-    c.symbol-item.is (g.P.Predictor.state c.args.predictor.now) _ c.loop-symbol.invariant.learned
-    (predicted_entry g.P.Predictor.rows g.P.Model.EncoderModel.symbol_eq) c.in-Err.error _
-    (λ is. c.in-Err.ensures.impossible (ap Err is)) c.in-Err.ensures.unlearned
+pub returns-in_default : goal.returns-in_default
+returns-in_default g c = record { ok = tt; learned = tt; err = ([], c.args.symbols.now, refl, refl) }
 
-pub returns-clause-ok : goal.returns-clause-ok
-returns-clause-ok g c =
-    subst (λ (xs : List g.row.P-Symbol.Denot). AllZip
-    (IsEntryAt g.row.PRECISION (entry_at (predicted_entry g.P.Predictor.rows g.P.Model.EncoderModel.symbol_eq)))
-    (placed g.P.Predictor.next (g.P.Predictor.state c.args.predictor.now) xs)
-    (map g.K.StoredEntry.kept c.loop-symbol.entries.items))
-    (take_all c.loop-symbol.symbol-index c.args.symbols.now (omega (arith, c.loop-symbol-test.false))) c.loop-symbol.invariant.so_far
+pub returns-in-Err : goal.returns-in-Err
+returns-in-Err g c = record {
+  ok = tt;
+  learned = tt;
+  err =
+      stops-predicting g.P.Predictor.next c.args.symbols.now c.loop-symbol.symbol-index c.symbol-item.result c.loop-symbol-test.true
+      c.symbol-item.is (g.P.Predictor.state c.args.predictor.now) _ c.loop-symbol.invariant.learned
+      (predicted_entry g.P.Predictor.rows g.P.Model.EncoderModel.symbol_eq) c.in-Err.error _
+      (λ is. c.in-Err.ensures.impossible (ap Err is)) c.in-Err.ensures.unlearned;
+}
+
+pub returns : goal.returns
+returns g c =
+    let first = g.P.Predictor.state c.args.predictor.now in
+    let all = take_all c.loop-symbol.symbol-index c.args.symbols.now (omega (arith, c.loop-symbol-test.false)) in
+    record {
+      ok =
+          subst (λ (xs : List g.row.P-Symbol.Denot). AllZip
+          (IsEntryAt g.row.PRECISION (entry_at (predicted_entry g.P.Predictor.rows g.P.Model.EncoderModel.symbol_eq)))
+          (placed g.P.Predictor.next first xs) (map g.K.StoredEntry.kept c.loop-symbol.entries.items)) all
+          c.loop-symbol.invariant.so_far;
+      learned = c.loop-symbol.invariant.learned ∙ ap (λ (xs : List g.row.P-Symbol.Denot). fold g.P.Predictor.next first xs) all;
+      err = tt;
+    }
