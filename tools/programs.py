@@ -1,4 +1,5 @@
 """Programs that stand beside the crates: those of Rattle, which run by `rt try`, and those over the Rust crate, which cargo builds."""
+import contextlib
 import hashlib
 import json
 import os
@@ -9,6 +10,7 @@ import signal
 import subprocess
 import sys
 import tempfile
+import threading
 import time
 
 from sources import TOP, files_below, read
@@ -61,6 +63,30 @@ def write_files(folder, files):
         path.write_text(text, encoding="utf-8")
 
 
+def end_second_reading(ran):
+    """Ends the process that `rt try` starts beside a try, if this one does."""
+    children = pathlib.Path(f"/proc/{ran.pid}/task/{ran.pid}/children")
+    while ran.poll() is None:
+        with contextlib.suppress(OSError):
+            for it in children.read_text().split():
+                if b"\0no function\0" in pathlib.Path(f"/proc/{it}/cmdline").read_bytes():
+                    os.kill(int(it), signal.SIGKILL)
+                    return
+        time.sleep(0.1)
+
+
+def run_try(folder, *words):
+    """Runs `rt try` in the folder of a crate, and returns how it ended, with what it printed and said.
+
+    Beside a try, rt reads all sources once more, for a hint that nobody reads here. That takes a third of the processor time, so it is ended.
+    """
+    how = {"stdin": subprocess.DEVNULL, "stdout": subprocess.PIPE, "stderr": subprocess.PIPE, "text": True, "errors": "replace"}
+    with subprocess.Popen(["rt", "try", *words], cwd=folder, **how) as ran:
+        threading.Thread(target=end_second_reading, args=[ran], daemon=True).start()
+        printed, said = ran.communicate()
+    return subprocess.CompletedProcess(ran.args, ran.returncode, printed, said)
+
+
 def tried(program, name, uses, inputs, *flags):
     """Runs the program in the files NAME.rt.txt of a folder on each input: checked as it runs, and not proved.
 
@@ -77,8 +103,7 @@ def tried(program, name, uses, inputs, *flags):
         write_files(f"{folder}/inputs", inputs)
         lines = f"{read('crates.txt')}{KERNELS}: {KERNELS_USE}\n{name}: {uses}\n"
         write_files(folder, {"HANDLES": read("HANDLES"), "crates.txt": lines})
-        words = ["rt", "try", *flags, "--cases", f"{folder}/inputs"]
-        ran = subprocess.run(words, cwd=f"{folder}/crates/{name}", stdin=subprocess.DEVNULL, capture_output=True, text=True)
+        ran = run_try(f"{folder}/crates/{name}", *flags, "--cases", f"{folder}/inputs")
     parts = re.split(r"^== (.*)\n", ran.stdout, flags=re.M)
     return dict(zip(parts[1::2], parts[2::2])), ran.stderr, ran.returncode
 
@@ -153,16 +178,13 @@ def copy_alone(crate, built, folder):
     return flags_over([it for it in line.split()[1:] if it in below], built)
 
 
-def add_tried(crate, is_alone):
-    """Puts the tests in tried/ into src/ of a copy of their crate: alone, with those of src/ that their root names, or beside all of these."""
+def add_tried(crate):
+    """Puts the tests in tried/ beside those of a copy of their crate."""
     tried = files_below(f"crates/{os.path.basename(crate)}/tried", ".rt.txt")
     tried = {os.path.basename(it).removesuffix(".txt"): f"{TOP}/{it}" for it in tried}
     root, own = (pathlib.Path(it).read_text(encoding="utf-8") for it in (tried.pop("lib.rt"), f"{crate}/src/lib.rt"))
     others = [it for it in re.findall(r"^mod (\w+);$", own, re.M) if f"\nmod {it};\n" not in root]
-    for it in others if is_alone else ():
-        os.remove(f"{crate}/src/{it}.rt")
-        shutil.rmtree(f"{crate}/src/{it}", ignore_errors=True)
-    root += "" if is_alone else "".join(f"#[cfg(test)]\nmod {it};\n" for it in others)
+    root += "".join(f"#[cfg(test)]\nmod {it};\n" for it in others)
     pathlib.Path(f"{crate}/src/lib.rt").write_text(root, encoding="utf-8")
     for name, path in tried.items():
         shutil.copy(path, f"{crate}/src/{name}")
