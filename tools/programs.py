@@ -141,8 +141,8 @@ def copy_crates(lines, folder):
 def prove(crates, folder):
     """Proves crates and those below them, without their wrong bodies, in a copy in a folder, and builds the programs among them.
 
-    `rt ci` keeps what it proves for each later run of it on this machine, that of the gate too. It proves all that it finds, so it runs in a
-    copy. Each ten seconds standard error is told how far it is. Returns what rt said if not all is proved, else nothing.
+    `rt ci` proves all that it finds, so it runs in a copy. Each ten seconds standard error is told how far it is. Returns what rt said if not
+    all is proved, else nothing.
     """
     started, lines = time.time(), lines_below(crates)
     copy_crates(lines, folder)
@@ -160,6 +160,18 @@ def prove(crates, folder):
                 ran.send_signal(signal.SIGINT)
         file.seek(0)
         return file.read() if ran.wait() else ""
+
+
+def with_libraries(crates, folder):
+    """Returns a folder in which `rt ci` built libraries and those below them: the checkout, if it did so there since the last change of a
+    source, else the given one, where they are proved first. Stops where they are not proved."""
+    # a library with a stamp is of another command, and fits only those that this one built
+    folders = {it: f"{TOP}/crates/{it}/out/rlib" for it in lines_below(crates)}
+    if all(is_current(f"{at}/{it}.rlib") and not os.path.exists(f"{at}/stamp") for it, at in folders.items()):
+        return TOP
+    if said := prove(crates, folder):
+        stop(f"not all of {', '.join(crates)} are proved", said)
+    return folder
 
 
 def flags_over(names, built):
