@@ -10,7 +10,6 @@ use constriction::stream::model::{
     DefaultContiguousCategoricalEntropyModel, EncoderModel, Probe, row_of_quantile,
     to_generic_decoder_model_of_distinct, to_generic_encoder_model,
 };
-use constriction_model::row_in_probe;
 use constriction_test_support::plain_rows::row;
 use constriction_words::{NonZeroBitArray, WholeNumber};
 use std::cell::Cell;
@@ -63,47 +62,6 @@ fn a_probe_of_the_caller_is_searched(rt: HostRuntime) {
     };
     same(&rt, row_of_quantile(&mut rows, 999u16), 499);
     same(&rt, [rows.asked(), questions.get()], [10, 10]);
-}
-
-/// The index that `row_in_probe` finds among `size` even numbers, and how many questions it asked.
-#[tactic(auto, using(crate::proofs::EvenLemmas::length_evens))]
-fn searched<const FEW: usize>(size: usize, q: u16) -> (usize, usize)
-    requires some { 0 < size }
-    requires within { size ≤ 1000 }
-    requires few { FEW ≤ 32 }
-{
-    let questions = Cell::new(0);
-    let rows = Evens {
-        size,
-        asked: 0,
-        questions: &questions,
-    };
-    (row_in_probe::<_, FEW>(rows, q), questions.get())
-}
-
-/// How many even numbers a probe has, the word that is searched for, the index that is found, and
-/// how many questions that takes.
-const SEARCHES: [(usize, u16, usize, usize); 10] = [
-    (1, 9, 0, 0),
-    (2, 1, 0, 1),
-    (3, 3, 1, 2),
-    (4, 7, 3, 2),
-    (5, 7, 3, 3),
-    (16, 9, 4, 4),
-    (17, 40, 16, 5),
-    (32, 31, 15, 5),
-    (33, 64, 32, 6),
-    (1000, 999, 499, 10),
-];
-
-#[test]
-fn a_probe_that_is_not_asked_afterwards_is_searched_by_as_many_questions(rt: HostRuntime) {
-    for each in &SEARCHES {
-        let (size, q, index, questions) = *each;
-        assert!(rt; 0 < size && size <= 1000);
-        let found = [searched::<2>(size, q), searched::<32>(size, q)];
-        same_at(&rt, size, found, [(index, questions); 2]);
-    }
 }
 
 type Wide = DefaultContiguousCategoricalEntropyModel;
