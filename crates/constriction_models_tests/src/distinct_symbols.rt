@@ -1,4 +1,4 @@
-//! Constructors and conversions that do not compare each symbol with all before it.
+//! Constructors and conversions of symbols that the caller knows to differ.
 
 ghost use Rattle.std.specs.Prelude.{nat_eq};
 ghost use Rattle.std.specs.List.{IsDistinct};
@@ -43,7 +43,7 @@ fn looks_up(rt: &impl Abort, made: Result<NumberLookup, ModelError>, number: usi
 }
 
 #[test]
-fn numbers_that_are_known_to_differ_are_not_compared(rt: HostRuntime) {
+fn numbers_that_are_known_to_differ_are_decoded(rt: HostRuntime) {
     let made = of_distinct(rt.alloc(), [7, 3, 9, 5], WEIGHTS).expect(&rt, "a model");
     same(&rt, plain(made.quantile_function(20)), Ok((3, 3, 18)));
     looks_up(&rt, made.into_lookup_decoder_model(rt.alloc()), 9);
@@ -102,7 +102,7 @@ fn hashed(alloc: Global) -> Result<Decoder<6>, ModelError> {
 }
 
 #[test]
-fn models_whose_symbols_differ_are_converted_without_comparing(rt: HostRuntime) {
+fn models_whose_symbols_differ_are_converted(rt: HostRuntime) {
     looks_up(&rt, of_contiguous(rt.alloc(), &small(&rt, rt.alloc())), 2);
     let model = hashed(rt.alloc()).expect(&rt, "a model");
     has_row(&rt, &again(rt.alloc(), &model).expect(&rt, "a model"));
