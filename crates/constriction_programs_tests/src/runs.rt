@@ -41,8 +41,8 @@ impl Read for SlowReader<'_> {
     }
 }
 
-/// Is interrupted every other time. Takes one byte the other times, and fails after `turns` of
-/// them.
+/// Is interrupted every other time. Takes one byte the other times, and fails once, after `turns`
+/// of them. If it is asked again, it takes the rest.
 #[derive(Drop)]
 pub(crate) struct SlowWriter {
     pub(crate) taken: Vec<u8>,
@@ -57,6 +57,7 @@ impl Write for SlowWriter {
             return Err(io::Error::from(ErrorKind::Interrupted));
         }
         if self.turns == 0 {
+            self.turns = usize::MAX;
             return Err(io::Error::from(ErrorKind::BrokenPipe));
         }
         self.turns -= 1;
@@ -118,6 +119,7 @@ fn run_to_slow(alloc: Global, turns: usize) -> (Result<(), RunFault>, Vec<u8>) {
     (result, writer.taken)
 }
 
+/// The writer is not asked again, though it would take the rest.
 #[test]
 fn a_writer_that_fails_has_a_beginning(rt: HostRuntime) {
     let (result, taken) = run_to_slow(rt.alloc(), 12);
