@@ -15,6 +15,7 @@ pub mod marked;
 pub mod own_model;
 pub mod own_word;
 pub mod plain_rows;
+pub mod sizes;
 pub mod symbol_types;
 pub mod watched;
 pub mod widths;
