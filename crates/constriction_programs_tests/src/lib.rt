@@ -8,8 +8,6 @@
 #![tactic(auto)]
 
 #[cfg(test)]
-mod by_context;
-#[cfg(test)]
 mod checks;
 #[cfg(test)]
 mod contexts;
@@ -18,20 +16,10 @@ mod frames;
 #[cfg(test)]
 mod known;
 #[cfg(test)]
-mod learned;
-#[cfg(test)]
 mod longest_input;
-#[cfg(test)]
-mod mixed;
-#[cfg(test)]
-mod numbers;
-#[cfg(test)]
-mod own_mixer;
 #[cfg(test)]
 mod packed_files;
 #[cfg(test)]
 mod packing;
 #[cfg(test)]
 mod runs;
-#[cfg(test)]
-mod samples;

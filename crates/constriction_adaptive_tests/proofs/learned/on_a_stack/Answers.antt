@@ -5,7 +5,7 @@ use Rattle.std.proofs.lemmas.List.{map-id}
 use Rattle.constriction_coders.specs.AnsCoder.{held_by}
 use Rattle.constriction_coders.specs.Places.{entry_at}
 use Rattle.constriction_adaptive.specs.Predicted.{predicted_entry, AreStacked}
-use Rattle.constriction_programs_tests.proofs.learned.on_a_stack.Goals as goal
+use Rattle.constriction_adaptive_tests.proofs.learned.on_a_stack.Goals as goal
 
 pub returns-in-Ok : goal.returns-in-Ok
 returns-in-Ok g c =

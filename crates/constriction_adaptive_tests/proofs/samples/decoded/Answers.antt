@@ -1,5 +1,5 @@
 use Rattle.std.proofs.Common.{Result, Ok, Err, IfOk}
-use Rattle.constriction_programs_tests.proofs.samples.decoded.Goals as goal
+use Rattle.constriction_adaptive_tests.proofs.samples.decoded.Goals as goal
 
 -- a consequence of what is known of a value, if there is one
 then_also : {T E : Type 0} {P Q : T → Type 0} (r : Result T E) → ((t : T) → P t → Q t) → IfOk r P → IfOk r Q

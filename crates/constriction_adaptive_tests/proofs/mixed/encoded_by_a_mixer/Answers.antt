@@ -4,7 +4,7 @@ use Rattle.constriction_coders.specs.Places.{IsMessageFrom}
 use Rattle.constriction_adaptive.specs.Numbers.{all_bits, AreReadFrom}
 use Rattle.constriction_adaptive.specs.Mixer.{MixerState, mixer_after, mixer_rows}
 use Rattle.constriction_adaptive.specs.Predicted.{predicted_entry}
-use Rattle.constriction_programs_tests.proofs.mixed.encoded_by_a_mixer.Goals as goal
+use Rattle.constriction_adaptive_tests.proofs.mixed.encoded_by_a_mixer.Goals as goal
 
 pub returns-clause-message : goal.returns-clause-message
 returns-clause-message c =

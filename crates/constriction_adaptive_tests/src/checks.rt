@@ -1,0 +1,25 @@
+//! Compares what is found with what is expected.
+//!
+//! Tests call these functions, because `assert_eq!` takes long to prove and a call takes no time.
+
+use std::alloc::Global;
+use std::fmt::{Debug, Display};
+use std::process::Abort;
+
+/// Asserts that the two are equal, and shows both if they are not.
+pub fn same<T: PartialEq + Debug + Drop>(rt: &impl Abort, found: T, expected: T) {
+    assert_eq!(rt; found, expected);
+}
+
+/// Asserts that a `Vec` holds these items.
+pub fn holds<T: PartialEq + Debug>(rt: &impl Abort, found: &Vec<T>, expected: &[T]) {
+    same(rt, found.as_slice(), expected);
+}
+
+/// Asserts that the value is displayed as this text.
+pub fn prints<T: Display>(rt: &impl Abort, alloc: Global, value: &T, text: &str) {
+    let Ok(printed) = format!(in alloc; "{value}") else {
+        panic!(rt; "memory was refused");
+    };
+    same(rt, printed.as_str(), text);
+}
