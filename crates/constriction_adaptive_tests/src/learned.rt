@@ -18,7 +18,7 @@ use std::alloc::{AllocError, Global};
 use std::process::Abort;
 
 mod known_models;
-mod other_words;
+mod other_symbols;
 
 pub type Letters = ContiguousCategoricalEntropyModel<u32, Vec<u32>, 6>;
 

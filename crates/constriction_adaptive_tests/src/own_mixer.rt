@@ -9,15 +9,14 @@ ghost use Rattle.constriction_adaptive.specs.Mixing.{error_of, mixed, squash, st
 ghost use Rattle.constriction_adaptive.specs.lemmas.Bit.{next-same};
 
 use crate::checks::{holds, same};
-use constriction_adaptive::bytes::{bytes_come_back, encode_bytes};
+use constriction_adaptive::bytes::bytes_come_back;
 use constriction_adaptive::mixing::{adjust, mix, squash, strength};
 use constriction_adaptive::{AdaptiveBit, Bit, ByContext, ByMixing, Context, OrderOne, Predictor};
 use std::alloc::{AllocError, Global};
-use std::process::Abort;
 
 /// The context of the last bits, of which there are `contexts`: a power of 2.
 #[derive(Drop)]
-struct LastBits {
+pub struct LastBits {
     contexts: usize,
     recent: usize,
     ghost below: { recent < contexts },
@@ -46,10 +45,10 @@ impl Context<Bit, 16> for LastBits {
     ghost next_law = { next-same (λ s bit. (s.0, (2 * s.1 + bit_number bit) % s.0)) };
 }
 
-type ByLastBits = ByContext<AdaptiveBit, LastBits, 16>;
+pub type ByLastBits = ByContext<AdaptiveBit, LastBits, 16>;
 
 /// Predicts a bit by the last ones.
-fn by_last_bits(alloc: Global, contexts: usize) -> Result<ByLastBits, AllocError>
+pub fn by_last_bits(alloc: Global, contexts: usize) -> Result<ByLastBits, AllocError>
     requires some { 0 < contexts }
     requires few { contexts ≤ 2 ^ 32 }
     ensures { IfOk result (λ made. ⟦<ByLastBits as Predictor<16>>⟧.state made
@@ -62,10 +61,10 @@ fn by_last_bits(alloc: Global, contexts: usize) -> Result<ByLastBits, AllocError
     Ok(ByContext::new(AdaptiveBit::new_many(alloc, contexts)?, recent))
 }
 
-type AllThree = ByMixing<(ByLastBits, (ByLastBits, (OrderOne, ()))), 3>;
+pub type AllThree = ByMixing<(ByLastBits, (ByLastBits, (OrderOne, ()))), 3>;
 
 /// Predicts the bits of bytes by the last 12 and the last 20 bits, and by the byte before.
-fn by_all_three(alloc: Global) -> Result<AllThree, AllocError>
+pub fn by_all_three(alloc: Global) -> Result<AllThree, AllocError>
     ensures { IfOk result (λ made. ⟦<AllThree as Predictor<16>>⟧.state made ≡ mixture_of (
       state_of (even_weights 4096) (4096, 0),
       (
@@ -89,7 +88,7 @@ fn bytes_back(alloc: Global, bytes: &[u8]) -> Result<Vec<u8>, AllocError>
     bytes_come_back(alloc, &mut encoding, &mut decoding, bytes)
 }
 
-const TEXT: &[u8] =
+pub const TEXT: &[u8] =
     b"Row, row, row your boat, gently down the stream; merrily, merrily, merrily, merrily, life is but a dream.\n\
 Row, row, row your boat, gently down the stream; if you see a crocodile, do not forget to scream.\n";
 
@@ -99,34 +98,6 @@ fn bytes_come_back_by_a_mixer_of_a_callers_own(rt: HostRuntime) {
         Ok(again) => holds(&rt, &again, TEXT),
         Err(_) => panic!(rt; "memory was refused"),
     }
-}
-
-/// How many words the text takes.
-fn words_by<P>(rt: &impl Abort, alloc: Global, predictor: Result<P, AllocError>) -> usize
-where
-    P: Predictor<16, Symbol = bool, Model = Bit> + Drop,
-{
-    let Ok(mut predictor) = predictor else {
-        panic!(rt; "memory was refused");
-    };
-    match encode_bytes(alloc, &mut predictor, TEXT) {
-        Ok(words) => words.len(),
-        Err(_) => panic!(rt; "memory was refused"),
-    }
-}
-
-/// Asserts that the text takes fewer words by all predictors than by each alone.
-fn takes_fewer_words(rt: &impl Abort, alloc: Global) {
-    let together = words_by(rt, alloc, by_all_three(alloc));
-    let by_few = words_by(rt, alloc, by_last_bits(alloc, 4096));
-    let by_many = words_by(rt, alloc, by_last_bits(alloc, 1_048_576));
-    let by_a_byte = words_by(rt, alloc, OrderOne::new(alloc));
-    same(rt, together < by_few.min(by_many).min(by_a_byte), true);
-}
-
-#[test]
-fn a_text_takes_fewer_words_by_a_mixer_than_by_each_of_its_predictors(rt: HostRuntime) {
-    takes_fewer_words(&rt, rt.alloc());
 }
 
 /// The weight of 0 by two others, and what each of them counts after a bit, by numbers alone.

@@ -11,7 +11,6 @@ ghost use Rattle.constriction_adaptive.specs.Predicted.{predicted_entry};
 ghost use Rattle.constriction_coders.specs.Places.{IsMessageFrom};
 
 use crate::checks::{holds, same};
-use crate::numbers::twice;
 use constriction::CoderError;
 use constriction::stream::model::ModelError;
 use constriction_adaptive::queue::{decode_message_of, encode_message};
@@ -24,15 +23,15 @@ use either::Either;
 use std::alloc::{AllocError, Global};
 use std::process::Abort;
 
-type Classes = ByContext<AdaptiveCategorical<5, 16>, LastSymbols, 16>;
+pub type Classes = ByContext<AdaptiveCategorical<5, 16>, LastSymbols, 16>;
 
-type Samples = Pair<Classes, UniformBits<16>, LastSymbols, 16>;
+pub type Samples = Pair<Classes, UniformBits<16>, LastSymbols, 16>;
 
 /// A class, or the bits of a number of this class.
 type Symbol = Either<usize, usize>;
 
 /// Predicts classes by the class before, and the bits of a class all alike.
-fn by_classes(alloc: Global) -> Result<Samples, ModelError>
+pub fn by_classes(alloc: Global) -> Result<Samples, ModelError>
     ensures { IfOk result (λ made. ⟦<Samples as Predictor<16>>⟧.state made ≡ pair_state
         (state_of (even_many 17 16 17) (none_recent 17 1))
         (state_of (range_with_len 0 17) (none_recent 17 1)) false) }
@@ -189,20 +188,6 @@ fn samples_of_a_wave_come_back_from_few_words(rt: HostRuntime) {
     };
     let again = samples(alloc, &again).expect(&rt, "memory");
     holds(&rt, &again, &wave);
-}
-
-/// The words of a class and its bits, and again by a snapshot.
-fn samples_twice(alloc: Global) -> Option<(Vec<u32>, Vec<u32>)> {
-    let predictor = by_classes(alloc).ok()?;
-    twice(alloc, predictor, &[Either::Left(3), Either::Right(5)])
-}
-
-#[test]
-fn a_snapshot_of_a_pair_codes_the_same_again(rt: HostRuntime) {
-    let Some((words, again)) = samples_twice(rt.alloc()) else {
-        panic!(rt; "memory was refused");
-    };
-    holds(&rt, &words, &again);
 }
 
 /// Why a class and then another class are not encoded.

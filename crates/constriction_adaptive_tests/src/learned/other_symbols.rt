@@ -1,49 +1,16 @@
-//! Stacks whose words are cut or damaged, and a decoder whose model has other symbols.
+//! A decoder whose model has other symbols.
 
 ghost use Rattle.std.specs.Prelude.{List, refl};
 ghost use Rattle.constriction.specs.Rows.{Row};
 
-use crate::checks::{holds, same};
-use crate::learned::{ByTurns, SYMBOLS, letters};
+use crate::checks::holds;
 use constriction::backends::Cursor;
 use constriction::stream::model::{
     ContiguousCategoricalEntropyModel, DecoderModel, EncoderModel, EntropyModel,
 };
-use constriction_adaptive::{Bit, Predictor, decode_adaptively, queue, stack};
+use constriction_adaptive::{Bit, Predictor, queue};
 use constriction_coders::ModelWord;
-use constriction_coders::stack::AnsCoder;
 use std::alloc::AllocError;
-
-/// The words of the letters on a stack, whole, cut and damaged, and the letters that they give by
-/// the formulas. Any words give letters.
-const STACKS: [(&[u32], [usize; 7]); 4] = [
-    (&[0x1814_0F40], SYMBOLS),
-    (&[], [0; 7]),
-    (&[0x1814_0F41], [1, 1, 2, 0, 2, 0, 2]),
-    (&[0x1804_0F40], [0, 2, 1, 0, 2, 0, 2]),
-];
-
-#[test]
-fn a_stack_that_is_cut_or_damaged_gives_other_letters(rt: HostRuntime) {
-    let alloc = rt.alloc();
-    let this = letters(&rt, alloc, [1, 2, 61]);
-    let other = letters(&rt, alloc, [40, 20, 4]);
-    for (words, expected) in &STACKS {
-        let mut decoding = ByTurns {
-            this: &this,
-            other: &other,
-            room: 7,
-        };
-        let words = words.to_vec(alloc).expect(&rt, "memory");
-        let Ok(mut coder) = AnsCoder::from_compressed(words) else {
-            panic!(&rt; "the words were refused");
-        };
-        match decode_adaptively(alloc, &mut decoding, 7, &mut coder) {
-            Ok(answers) => holds(&rt, &answers, expected),
-            Err(_) => panic!(&rt; "the letters were not decoded"),
-        }
-    }
-}
 
 /// Predicts each symbol by the same model.
 #[derive(Drop)]
