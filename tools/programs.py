@@ -87,25 +87,21 @@ def run_try(folder, *words):
     return subprocess.CompletedProcess(ran.args, ran.returncode, printed, said)
 
 
-def tried(program, name, uses, inputs, *flags):
-    """Runs the program in the files NAME.rt.txt of a folder on each input: checked as it runs, and not proved.
+def tried(program, name, uses, files, *flags):
+    """Tries the crate `name`, of the files NAME.rt.txt of a folder and of more files: checked as it runs, and not proved.
 
-    It is the crate `name` of a copy of the repository, where it may use the benchmark's kernels too. Returns what it printed on each
-    input, what rt said in all, and rt's status.
+    It stands in a copy of the repository, where it may use the benchmark's kernels too. Returns how `rt try` ended with these flags.
     """
     need("rt")
     with tempfile.TemporaryDirectory(prefix=f"{name}-") as folder:
-        for part in (f"crates/{crate}/{part}" for crate in os.listdir(f"{TOP}/crates") for part in ("src", "specs", "proofs")):
+        for part in (f"crates/{crate}/src" for crate in os.listdir(f"{TOP}/crates")):
             if os.path.isdir(f"{TOP}/{part}"):
                 shutil.copytree(f"{TOP}/{part}", f"{folder}/{part}")
-        write_files(f"{folder}/crates/{name}", crate_in(program))
+        write_files(f"{folder}/crates/{name}", {**crate_in(program), **files})
         write_files(f"{folder}/crates/{KERNELS}", crate_in(OF_KERNELS))
-        write_files(f"{folder}/inputs", inputs)
         lines = f"{read('crates.txt')}{KERNELS}: {KERNELS_USE}\n{name}: {uses}\n"
         write_files(folder, {"HANDLES": read("HANDLES"), "crates.txt": lines})
-        ran = run_try(f"{folder}/crates/{name}", *flags, "--cases", f"{folder}/inputs")
-    parts = re.split(r"^== (.*)\n", ran.stdout, flags=re.M)
-    return dict(zip(parts[1::2], parts[2::2])), ran.stderr, ran.returncode
+        return run_try(f"{folder}/crates/{name}", *flags)
 
 
 def is_current(path, *more):
