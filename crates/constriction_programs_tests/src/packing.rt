@@ -147,8 +147,8 @@ fn zeros_take_few_bytes(rt: HostRuntime) {
 
 /// How long the file of 2^24 zeros and the verses is at each level.
 const LENGTHS: [(Level, usize); 3] = [
-    (Level::Fast, 206),
-    (Level::Default, 212),
+    (Level::Fast, 172),
+    (Level::Default, 182),
     (Level::Best, 169),
 ];
 
