@@ -4,7 +4,7 @@ ghost use Rattle.std.specs.Prelude.{◌≡◌, IfOk};
 
 use crate::checks::holds;
 use constriction_adaptive::numbers::numbers_come_back;
-use constriction_adaptive::{EncoderFrontendError, HashedContexts, Predictor};
+use constriction_adaptive::{EncoderFrontendError, HashedContexts};
 use std::alloc::Global;
 
 /// Encodes samples of 12 bits and decodes as many.
