@@ -25,8 +25,9 @@ fn two_blocks_come_back(rt: HostRuntime) {
 
 /// Contents that no block has: of the kind `Repeated` no bytes, too many, and a byte more; of the
 /// kind `Weighted` nothing, no bytes, 2^23 + 1, 2^32 - 1 and 50 of them, a weight that is cut, one
-/// with a byte too many, weights that do not add up, and a word that is cut.
-const WRONG_CONTENTS: [(Kind, &[u8]); 12] = [
+/// with a byte too many, weights that do not add up, and a word that is cut; by contexts nothing,
+/// no bytes, 2^23 + 1 of them, a word that is cut, and words that no bytes have.
+const WRONG_CONTENTS: [(Kind, &[u8]); 20] = [
     (Kind::Repeated, b"\0\0\0\0\x07"),
     (Kind::Repeated, b"\x01\0\x80\0\x07"),
     (Kind::Repeated, b"\x14\0\0\0\x07\x07"),
@@ -51,6 +52,28 @@ const WRONG_CONTENTS: [(Kind, &[u8]); 12] = [
         Kind::Weighted,
         b"\x40\0\0\0\x01\x99\xd9\x03\xe5\x26\x88\x01\xec",
     ),
+    (Kind::FewContexts, b"\x01\0\0"),
+    (Kind::FewContexts, b"\0\0\0\0\0\0\0\x61"),
+    (Kind::FewContexts, b"\x01\0\x80\0\0\0\0\x61"),
+    (Kind::FewContexts, b"\x01\0\0\0\0\0\x61"),
+    (
+        Kind::FewContexts,
+        b"\x01\0\0\0\xff\xff\xff\xff\xff\xff\xff\xff",
+    ),
+    (Kind::ManyContexts, b"\0\0\0\0\0\0\0\x61"),
+    (Kind::ManyContexts, b"\x01\0\0\0\0\0\x61"),
+    (
+        Kind::ManyContexts,
+        b"\x01\0\0\0\xff\xff\xff\xff\xff\xff\xff\xff",
+    ),
+];
+
+/// Contents by contexts of one byte: of one word, and of none.
+const ONE_BYTE: [(Kind, &[u8], u8); 4] = [
+    (Kind::FewContexts, b"\x01\0\0\0\0\0\xc0\x61", b'a'),
+    (Kind::FewContexts, b"\x01\0\0\0", 0),
+    (Kind::ManyContexts, b"\x01\0\0\0\0\0\xc0\x61", b'a'),
+    (Kind::ManyContexts, b"\x01\0\0\0", 0),
 ];
 
 #[test]
@@ -60,6 +83,10 @@ fn wrong_contents_are_refused(rt: HostRuntime) {
     for each in &WRONG_CONTENTS {
         let error = unpack_block(rt.alloc(), each.0, each.1).err();
         same(&rt, error, Some(PackError::Damaged));
+    }
+    for each in &ONE_BYTE {
+        let bytes = unpack_block(rt.alloc(), each.0, each.1).expect(&rt, "a byte");
+        holds(&rt, &bytes, &[each.2]);
     }
     let again = block_comes_back(rt.alloc(), Level::Best, RARE).expect(&rt, "memory");
     holds(&rt, &again, RARE);
