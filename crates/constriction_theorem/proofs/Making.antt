@@ -1,6 +1,6 @@
 -- Models that are made of other models.
-use Rattle.std.proofs.Common.{◌≡◌, Bool, List, Result, Ok, Err}
-use Rattle.std.specs.Prelude.{IfOk, IfErr}
+use Rattle.std.proofs.Common.{◌≡◌, ℕ, Bool, true, List, Result, Ok, Err, eq-eqb, sym}
+use Rattle.std.specs.Prelude.{IfOk, IfErr, nat_eq}
 use Rattle.std.specs.Cmp.{IsEquivalence}
 use Rattle.constriction_model.specs.Entries.{HoldsEntriesOf}
 use Rattle.constriction_model.specs.Model.{ClonesAreEqual}
@@ -9,6 +9,10 @@ use Rattle.constriction_model.specs.declared.ModelError.{ModelError}
 use Rattle.constriction_model.specs.declared.ModelError.TheVariants.{InvalidTable, OutOfMemory}
 use Rattle.constriction_model.specs.lemmas.Stand.{entries-of}
 use Rattle.constriction_theorem.specs.Answers.{IsDecidedBy}
+
+-- a clone of a number is that number, and so is equal to it
+pub same_are_equal : (x y : ℕ) → y ≡ x → nat_eq x y ≡ true
+same_are_equal x y e = eq-eqb x y (sym e)
 
 -- what is known before a call is known of its value
 pub whatever-ok : {A E P : Type 0} (r : Result A E) → P → IfOk r (λ _. P)

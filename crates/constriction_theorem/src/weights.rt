@@ -98,6 +98,7 @@ fn form_after<Probability: IndexWord, const PRECISION: usize>(
 }
 
 /// The form that the steps leave of a model's rows, and the hashed encoder that is made of it.
+#[tactic(auto, using(crate::proofs::Making::same_are_equal))]
 fn converted_from<Probability: IndexWord, const PRECISION: usize>(
     alloc: Global,
     model: &Contiguous<Probability, PRECISION>,
