@@ -1,11 +1,18 @@
 -- Models that are made anew of the symbols and the weights of a table.
-use Rattle.std.proofs.Common.{◌≡◌, ℕ, Bool, List, [], ◌∷◌, ◌++◌, Option, Result, Ok, map, refl, ap, sym, subst, ◌∙◌}
+use Rattle.std.proofs.Common.{◌≡◌, ℕ, ◌^◌, ◌<◌, Bool, List, [], ◌∷◌, ◌++◌, Option, Some, None, Result, Ok, Err, length, get_or, map, vec_len, refl, ap, sym, subst, ◌∙◌, arith}
 use Rattle.std.specs.Cmp.{IsEquivalence}
+use Rattle.std.specs.Prelude.{IfErr, IfSome}
 use Rattle.std.specs.Iterator.{Drains}
+use Rattle.std.specs.Iterator.Runs.{EachRunFrom, EveryRun, ItemsAre}
 use Rattle.std.specs.List.{IsDistinct}
-use Rattle.std.proofs.lemmas.List.{map-append}
+use Rattle.std.specs.Vec.Iter.{into_iter_items, into_iter_len, into_iter_steps}
+use Rattle.std.specs.declared.vec.IntoIter.{IntoIter}
+use Rattle.std.specs.declared.vec.Vec.{Vec}
+use Rattle.std.proofs.lemmas.List.{get_or-map, length-map, map-append, map-id}
 use Rattle.std.proofs.lemmas.Simd.{map-map}
-use Rattle.constriction_model.specs.Acceptance.{AreAccepted}
+use Rattle.constriction_model.specs.Acceptance.{AreAccepted, GivesList}
+use Rattle.constriction_model.specs.declared.error.ModelError.{ModelError}
+use Rattle.constriction_model.specs.declared.error.ModelError.TheVariants.{InvalidTable, OutOfMemory}
 use Rattle.constriction_model.specs.Laws.{AreRows}
 use Rattle.constriction_model.specs.Model.{row_of, StandForRows, ClonesAreEqual}
 use Rattle.constriction_model.specs.Rows.{Row, RowsTile, rows_of, symbols_of}
@@ -104,3 +111,38 @@ module _ {Symbol Word Weight Refusal Walk : Type 0} (eq : Symbol → Symbol → 
       lists-of-rows rows read symbols weights tile distinct
       (subst (λ (rs : List (Row Symbol)). StandForRows Stands (map (row_of whole base) read) rs) e
       ((gives (map Ok read) drained).unrefused read refl)) ss ws
+
+-- ---- constructors that are given items
+
+-- what is not an invalid table lacks memory
+pub lacks-memory : {Model : Type 0} (r : Result Model ModelError) → (r ≡ Err InvalidTable → ⊥) → IfErr r (λ e. e ≡ OutOfMemory)
+lacks-memory (Ok m) valid = tt
+lacks-memory (Err InvalidTable) valid = absurd (valid refl)
+lacks-memory (Err OutOfMemory) valid = refl
+
+number-at : {A B : Type 0} (value : A → B) (items : List A) (k : ℕ) (o : Option A) → k < length items
+    → IfSome o (λ x. x ≡ get_or items k x) → IfSome o (λ x. value x ≡ get_or (map value items) k (value x))
+number-at value items k None less is = tt
+number-at value items k (Some x) less is = ap value is ∙ sym (get_or-map value items k x (value x) less)
+
+-- a `Vec` that is taken apart gives its items, and the numbers of them
+module _ {A Z : Type 0} (v : Vec A Z) where
+  abbrev Becomes : Unit {0} → IntoIter A Z → Type 0
+  Becomes _ it =
+      (into_iter_items it ≡ v.items) × (into_iter_len it ≡ vec_len v) × (into_iter_len it < 2 ^ 64)
+      × EveryRun (into_iter_steps {X = A} {Z = Z}) (λ p. ItemsAre p (into_iter_items p.from))
+
+  items-are : (it : IntoIter A Z) → Becomes tt it → EachRunFrom into_iter_steps it (λ p. ItemsAre p v.items)
+  items-are it became p seen is = subst (λ xs. ItemsAre p xs) (ap into_iter_items is ∙ became.0) (became.3 p seen)
+
+  pub gives-numbers : {B : Type 0} (value : A → B) → GivesList value Becomes into_iter_steps tt (map value v.items)
+  gives-numbers value it became p seen is =
+      let are = items-are it became p seen is in
+      let long = length-map v.items value in (
+        omega (arith, are.0, long),
+        λ whole. are.1 whole ∙ sym long,
+        λ k less. number-at value v.items k (p.at k) (omega (arith, are.0)) (are.6 k),
+      )
+
+  pub gives-items : GivesList (λ x. x) Becomes into_iter_steps tt v.items
+  gives-items = subst (λ xs. GivesList (λ x. x) Becomes into_iter_steps tt xs) (map-id v.items) (gives-numbers (λ x. x))
