@@ -1,5 +1,5 @@
-use Rattle.std.proofs.Common.{rules, arith}
-use Rattle.std.proofs.lemmas.Grind.{common_steps}
+use Rattle.std.proofs.Common.{length, ap, rules, arith}
+use Rattle.std.proofs.lemmas.List.{length_push}
 use Rattle.constriction_backends.proofs.CursorRunLaws.{twice}
 use Rattle.constriction_client.proofs.Running.{runs-more}
 use Rattle.constriction_client.proofs.cursor_runs.run_reserved.Goals as goal
@@ -14,6 +14,11 @@ loop-call-preserved g c =
       kept = twice buf.with_words law.stand law.keeps_length law.unchanged law.again c.args.cursor.now.buf
           c.loop-call.cursor.buf c.step-reply.new.cursor.buf (g.Buf.SafeBuf.words_of c.loop-call.cursor.buf)
           c.loop-call.invariant.kept c.step-reply.ensures.kept;
-      counted = grind (arith, common_steps);
+      counted = omega (
+        arith,
+        c.loop-call.invariant.counted,
+        ap length c.push_reserved.ensures.items,
+        length_push c.loop-call.replies.items c.step-reply.result,
+      );
       room = search rules;
     }

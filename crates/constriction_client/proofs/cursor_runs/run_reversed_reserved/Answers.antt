@@ -1,5 +1,5 @@
-use Rattle.std.proofs.Common.{rules, arith}
-use Rattle.std.proofs.lemmas.Grind.{common_steps}
+use Rattle.std.proofs.Common.{length, ap, rules, arith}
+use Rattle.std.proofs.lemmas.List.{length_push}
 use Rattle.constriction_backends.proofs.CursorRunLaws.{twice}
 use Rattle.constriction_client.proofs.Running.{runs-more}
 use Rattle.constriction_client.proofs.cursor_runs.run_reversed_reserved.Goals as goal
@@ -14,6 +14,11 @@ loop-call-preserved g c =
       kept = twice buf.with_words law.stand law.keeps_length law.unchanged law.again c.args.reversed.now.0.buf
           c.loop-call.reversed.0.buf c.step_reversed-reply.new.reversed.0.buf (g.Buf.SafeBuf.words_of c.loop-call.reversed.0.buf)
           c.loop-call.invariant.kept c.step_reversed-reply.ensures.kept;
-      counted = grind (arith, common_steps);
+      counted = omega (
+        arith,
+        c.loop-call.invariant.counted,
+        ap length c.push_reserved.ensures.items,
+        length_push c.loop-call.replies.items c.step_reversed-reply.result,
+      );
       room = search rules;
     }
