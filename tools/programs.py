@@ -63,26 +63,30 @@ def write_files(folder, files):
         path.write_text(text, encoding="utf-8")
 
 
-def end_second_reading(ran):
-    """Ends the process that `rt try` starts beside a try, if this one does."""
+def tend(ran):
+    """Has what `rt try` starts take no more of the processors than it needs.
+
+    It tries in a session of its own, and Linux gives each session the same share, however nice its processes are: so the session gets the
+    niceness of this process. Beside that it reads all sources once more, for a hint that nobody reads here, which is ended.
+    """
     children = pathlib.Path(f"/proc/{ran.pid}/task/{ran.pid}/children")
     while ran.poll() is None:
         with contextlib.suppress(OSError):
             for it in children.read_text().split():
-                if b"\0no function\0" in pathlib.Path(f"/proc/{it}/cmdline").read_bytes():
+                if os.getsid(int(it)) == int(it):
+                    with contextlib.suppress(OSError):
+                        pathlib.Path(f"/proc/{it}/autogroup").write_text(str(os.nice(0)))
+                elif b"\0no function\0" in pathlib.Path(f"/proc/{it}/cmdline").read_bytes():
                     os.kill(int(it), signal.SIGKILL)
                     return
         time.sleep(0.1)
 
 
 def run_try(folder, *words):
-    """Runs `rt try` in the folder of a crate, and returns how it ended, with what it printed and said.
-
-    Beside a try, rt reads all sources once more, for a hint that nobody reads here. That takes a third of the processor time, so it is ended.
-    """
+    """Runs `rt try` in the folder of a crate, and returns how it ended, with what it printed and said."""
     how = {"stdin": subprocess.DEVNULL, "stdout": subprocess.PIPE, "stderr": subprocess.PIPE, "text": True, "errors": "replace"}
     with subprocess.Popen(["rt", "try", *words], cwd=folder, **how) as ran:
-        threading.Thread(target=end_second_reading, args=[ran], daemon=True).start()
+        threading.Thread(target=tend, args=[ran], daemon=True).start()
         printed, said = ran.communicate()
     return subprocess.CompletedProcess(ran.args, ran.returncode, printed, said)
 
