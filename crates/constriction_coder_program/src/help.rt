@@ -10,27 +10,29 @@ that it calls is proved to unpack to the same bytes. Without pack, unpack or tes
 
   FILE             what is read: standard input if it is - or left out
   -o OUTPUT        what is written: standard output if it is - or left out. An OUTPUT that is there already is refused
-  -f, --force      ... unless this is given, and it is a regular file: then it is replaced
-  --fast, --best   packs in less time, or into fewer bytes
+  -f, --force      ... unless this is given, and it is a regular file: then a new file takes its name
+  --fast, --best   packs in less time, or into fewer bytes. With --best a megabyte takes one to two seconds, to unpack it too
   --limit BYTES    unpacks no more than this: a small FILE can hold any number of bytes
   --               what follows is FILE, whatever it begins with
-  --try            comes first, and takes no FILE and no OUTPUT: within half a minute a program answers that is not proved, but
-                   checked as it runs. A line on standard error says so. The answers have at most 1,048,576 bytes
+  --try            comes first, and takes no FILE and no OUTPUT: half a minute later, or more if the machine is busy, a program
+                   answers that is not proved, but checked as it runs. A line on standard error says so. The answers have at
+                   most 1,048,576 bytes
 
-OUTPUT is written as OUTPUT.NUMBER.part, and gets its name once it is whole. After a failure nothing of it is left, unless the
-program was killed, and an OUTPUT that was there stays as it was. Standard output keeps what was unpacked before a failure,
-which is a beginning of the file. No packed bytes go to a terminal. If standard error is one, a line there says each second
-how much was read of a large file. Why a file is refused stands there too, in a line like one of these:
+OUTPUT is written as OUTPUT.NUMBER.part, and gets its name once it is whole. It has the permissions of any new file, not those
+of FILE. After a failure nothing of it is left, and an OUTPUT that was there stays as it was; but a signal, as Ctrl-C sends one,
+leaves OUTPUT.NUMBER.part. Standard output keeps what was written before a failure: if that was unpacked, it is a beginning of
+the file. No packed bytes go to a terminal. If standard error is one, a line there says after 8 MiB, and at most once a second,
+how much was read. Why a file is refused stands there too, in a line like one of these:
 
-  coder: FILE: The input is no packed file.      it begins otherwise
+  coder: FILE: The input is no packed file.      it begins otherwise, or has fewer than 8 bytes
   coder: FILE: The packed file was cut.          it ends too early
   coder: FILE: The packed file is damaged.       a checksum, a number or a block is wrong, or something follows the packed file
   coder: FILE: The packed file holds more than was allowed.    more than BYTES
 
 One changed byte of a file that pack wrote is noticed, and other damage unless the checksums of 64 bits happen to fit.
 
-A line of LINES is in the formats of the Rust crate's DefaultAnsCoder, a stack, and DefaultRangeEncoder and
-DefaultRangeDecoder, a queue. Its answer comes on standard output.
+A line of LINES is about words by the published formulas of the Rust crate's DefaultAnsCoder, a stack, and DefaultRangeEncoder
+and DefaultRangeDecoder, a queue. Its answer comes on standard output.
 
   stack-encode P W.. : S..            the words from which the stack decodes the symbols S.., in this order
   stack-decode P W.. : N : WORD..     the N symbols that the stack decodes from these words
