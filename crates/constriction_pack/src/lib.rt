@@ -15,8 +15,9 @@
 //!    eight: the 64-bit FNV-1a hash of the signature, and of the headers and contents of this frame
 //!    and of all before it.
 //! 3. [`Kind`] says what a content is. [`pack`] takes the shortest of the kinds that a [`Level`]
-//!    tries. [`unpack`] takes any, and blocks of any length up to 2^23. A content by contexts has a
-//!    word for each 2^12 bytes of its block, or more: what is read bounds the time of [`unpack`].
+//!    tries, or one that is at most 3 bytes longer. [`unpack`] takes any, and blocks of any length
+//!    up to 2^23. A content by contexts has a word for each 2^12 bytes of its block, or more: what
+//!    is read bounds the time of [`unpack`].
 //!
 //! [`unpack`] reads files of the format before, too. Their signature is `cpk2` and the same bytes,
 //! the hashes are without it, and a content by contexts may have fewer words.
