@@ -21,11 +21,13 @@ apart n xs ys r s hx hy e = (
 pub added_twice : (old mid new xs ys zs : List ℕ) → mid ≡ old ++ xs → new ≡ mid ++ ys → zs ≡ xs ++ ys → new ≡ old ++ zs
 added_twice old mid new xs ys zs first then both = then ∙ ap (λ s. s ++ ys) first ∙ append_assoc old xs ys ∙ ap (λ s. old ++ s) (sym both)
 
+-- bytes to which others were added twice
 pub extends_more : (xs ys zs : List ℕ) → Extends xs ys → Extends ys zs → Extends xs zs
 extends_more xs ys zs h k = (h.0 ++ k.0, k.1 ∙ ap (λ s. s ++ k.0) h.1 ∙ append_assoc xs h.0 k.0)
 
 -- ---- bits of a number
 
+-- the lowest 0 bits of a number
 pub no_bits : (n : ℕ) → bits 0 n ≡ []
 unfolding bits
 no_bits n = refl
@@ -34,6 +36,7 @@ pub bits-suc : (count n : ℕ) → bits (suc count) n ≡ bits count (n / 2) ++ 
 unfolding bits
 bits-suc count n = refl
 
+-- how many bits these are
 pub length-bits : (count n : ℕ) → length (bits count n) ≡ count
 length-bits zero n = ap length (no_bits n)
 length-bits (suc count) n =
@@ -107,6 +110,7 @@ zero_bits count n h =
     ap (bits count) whole ∙ ap (λ k. bits k (n / 2 ^ count * 2 ^ count)) (sym (zero-add count)) ∙ bits-shifted 0 (n / 2 ^ count) count
     ∙ ap (λ xs. xs ++ replicate count 0) (no_bits (n / 2 ^ count))
 
+-- and nothing is left then
 pub none_left : (count n : ℕ) → bits count n ≡ replicate count 0 → n % 2 ^ count ≡ 0
 none_left count n e =
     let whole = n / 2 ^ count * 2 ^ count in
@@ -117,12 +121,15 @@ none_left count n e =
 
 -- ---- bits of bytes
 
+-- the bits of bytes and of others after them
 pub bits_of_bytes-append : (xs ys : List ℕ) → bits_of_bytes (xs ++ ys) ≡ bits_of_bytes xs ++ bits_of_bytes ys
 bits_of_bytes-append xs ys = flat_map-append (bits 8) xs ys
 
+-- the bits of one byte more
 pub bits_of_bytes-push : (xs : List ℕ) (x : ℕ) → bits_of_bytes (xs ++ x ∷ []) ≡ bits_of_bytes xs ++ bits 8 x
 bits_of_bytes-push xs x = bits_of_bytes-append xs (x ∷ []) ∙ ap (λ ys. bits_of_bytes xs ++ ys) (append-nil (bits 8 x))
 
+-- a byte has eight bits
 pub length-bits_of_bytes : (xs : List ℕ) → length (bits_of_bytes xs) ≡ 8 * length xs
 length-bits_of_bytes [] = refl
 length-bits_of_bytes (x ∷ xs) = omega (arith, length-append (bits 8 x) (bits_of_bytes xs), length-bits 8 x, length-bits_of_bytes xs)

@@ -6,16 +6,18 @@ use Rattle.std.proofs.lemmas.List.{length-replicate, nil_from_length}
 use Rattle.std.proofs.lemmas.List.Sums.{sum_by-append, sum_by-cons}
 use Rattle.std.proofs.lemmas.List.Folds.{sum_by-replicate}
 use Rattle.constriction_stored_weights.specs.Tables.{number_bits, run_bits, entry_bits, weight_bits}
-use Rattle.constriction_stored_weights.specs.private.Entries.{BeginsWithEntry, BeginsWithWeights, EndsInNumber, EndsInEntry, EndsInWeights}
+use Rattle.constriction_stored_weights.specs.private.Entries.{BeginsWithEntry, BeginsWithWeights, EndsInNumber, EndsInEntry, EndsInTableBits}
 use Rattle.constriction_stored_weights.proofs.NumbersLemmas.{same_number}
 
 -- ---- runs
 
+-- no zeros have no bits
 pub no_run : (run : ℕ) → run ≤ 0 → run_bits run ≡ []
 unfolding run_bits
 no_run zero h = refl
 no_run (suc more) h = absurd (omega arith)
 
+-- some zeros are told by 0 and their number
 pub a_run : (run : ℕ) → 0 < run → run_bits run ≡ number_bits 0 ++ number_bits run
 unfolding run_bits
 a_run zero h = absurd (omega arith)
@@ -23,9 +25,11 @@ a_run (suc more) h = refl
 
 -- ---- entries
 
+-- an entry after no zeros is its weight
 pub entry_with_no_run : (run weight : ℕ) (rest : List ℕ) → run ≤ 0 → entry_bits run weight ++ rest ≡ number_bits weight ++ rest
 entry_with_no_run run weight rest h = ap (λ xs. (xs ++ number_bits weight) ++ rest) (no_run run h)
 
+-- an entry after zeros is three numbers
 pub entry_with_run : (run weight : ℕ) (rest : List ℕ) → 0 < run
     → entry_bits run weight ++ rest ≡ number_bits 0 ++ (number_bits run ++ (number_bits weight ++ rest))
 entry_with_run run weight rest h =
@@ -33,7 +37,8 @@ entry_with_run run weight rest h =
     ∙ append_assoc (number_bits 0) (number_bits run) (number_bits weight ++ rest)
 
 -- an entry begins with a number
-pub begins_with_number : (whole : List ℕ) (entry : BeginsWithEntry whole) → (number : ℕ) × (number < 2 ^ 15) × ((rest : List ℕ) × (whole ≡ number_bits number ++ rest))
+pub begins_with_number : (whole : List ℕ) (entry : BeginsWithEntry whole)
+    → (number : ℕ) × (number < 2 ^ 15) × ((rest : List ℕ) × (whole ≡ number_bits number ++ rest))
 begins_with_number whole entry =
     elim (cases_lt 0 entry.run) [
       | inl some ↦ (0, omega arith, (_, entry.bits_are ∙ entry_with_run entry.run entry.weight entry.rest some))
@@ -57,7 +62,8 @@ run_after whole tail first e h entry =
     ]
 
 -- a number above 0 is the weight
-pub weight_first : (whole tail : List ℕ) (first : ℕ) → first < 2 ^ 15 → whole ≡ number_bits first ++ tail → 0 < first → (entry : BeginsWithEntry whole)
+pub weight_first : (whole tail : List ℕ) (first : ℕ) → first < 2 ^ 15 → whole ≡ number_bits first ++ tail → 0 < first
+    → (entry : BeginsWithEntry whole)
     → (entry.run ≡ 0) × (first ≡ entry.weight) × (tail ≡ entry.rest)
 weight_first whole tail first fits e h entry =
     elim (cases_lt 0 entry.run) [
@@ -71,7 +77,8 @@ weight_first whole tail first fits e h entry =
     ]
 
 -- bits begin with one entry
-pub same_entry : (whole rest : List ℕ) (run weight : ℕ) → run < 2 ^ 15 → 0 < weight → weight < 2 ^ 15 → whole ≡ entry_bits run weight ++ rest → (entry : BeginsWithEntry whole)
+pub same_entry : (whole rest : List ℕ) (run weight : ℕ) → run < 2 ^ 15 → 0 < weight → weight < 2 ^ 15
+    → whole ≡ entry_bits run weight ++ rest → (entry : BeginsWithEntry whole)
     → (run ≡ entry.run) × (weight ≡ entry.weight) × (rest ≡ entry.rest)
 same_entry whole rest run weight run_fits some weight_fits e entry =
     elim (cases_lt 0 run) [
@@ -96,6 +103,7 @@ ends_in_first given cut = record {
   bits_are = cut.bits_are ∙ sym (ap (λ xs. xs ++ number_bits cut.number) (no_run 0 (omega arith)));
 }
 
+-- bits that end in the number of zeros end in an entry
 pub ends_in_run : (given rest : List ℕ) (first : ℕ) → given ≡ number_bits first ++ rest → first ≤ 0 → EndsInNumber rest → EndsInEntry given
 ends_in_run given rest first e h cut =
     let none : first ≡ 0 = omega arith in
@@ -113,7 +121,9 @@ ends_in_run given rest first e h cut =
           ∙ ap (λ xs. xs ++ number_bits 1) (sym (a_run cut.number cut.some));
     }
 
-pub ends_in_weight : (given rest last : List ℕ) (first run : ℕ) → given ≡ number_bits first ++ rest → first ≤ 0 → rest ≡ number_bits run ++ last → 0 < run
+-- bits that end in the weight after zeros end in an entry
+pub ends_in_weight : (given rest last : List ℕ) (first run : ℕ) → given ≡ number_bits first ++ rest → first ≤ 0
+    → rest ≡ number_bits run ++ last → 0 < run
     → EndsInNumber last → EndsInEntry given
 ends_in_weight given rest last first run e h f some cut =
     let none : first ≡ 0 = omega arith in
@@ -131,12 +141,14 @@ ends_in_weight given rest last first run e h f some cut =
           ∙ ap (λ xs. xs ++ number_bits cut.number) (sym (a_run run some));
     }
 
+-- what comes after the rest comes after all
 pub extended : (up xs rest more : List ℕ) → up ≡ xs ++ rest → up ++ more ≡ xs ++ (rest ++ more)
 extended up xs rest more e = ap (λ s. s ++ more) e ∙ append_assoc xs rest more
 
 -- ---- the bits of weights
 
-pub weight_bits-replicate : (before count : ℕ) (weights : List ℕ) → weight_bits before (replicate count 0 ++ weights) ≡ weight_bits (before + count) weights
+pub weight_bits-replicate : (before count : ℕ) (weights : List ℕ)
+    → weight_bits before (replicate count 0 ++ weights) ≡ weight_bits (before + count) weights
 weight_bits-replicate before zero weights = ap (λ k. weight_bits k weights) (sym (add-zero before))
 weight_bits-replicate before (suc count) weights =
     let moved : suc before + count ≡ before + suc count = omega arith in
@@ -146,7 +158,9 @@ pub weight_bits-zeros : (before count : ℕ) → weight_bits before (replicate c
 weight_bits-zeros before zero = refl
 weight_bits-zeros before (suc count) = weight_bits-zeros (suc before) count
 
-pub weight_bits-some : (run weight : ℕ) (rest : List ℕ) → 0 < weight → weight_bits run (weight ∷ rest) ≡ entry_bits run weight ++ weight_bits 0 rest
+-- a weight above 0 ends an entry
+pub weight_bits-some : (run weight : ℕ) (rest : List ℕ) → 0 < weight
+    → weight_bits run (weight ∷ rest) ≡ entry_bits run weight ++ weight_bits 0 rest
 weight_bits-some run zero rest h = absurd (omega arith)
 weight_bits-some run (suc less) rest h = refl
 
@@ -192,6 +206,7 @@ pub record Reached (precision count : ℕ) (all done coming : List ℕ) (left : 
   pub only : (more : List ℕ) (table : BeginsWithWeights precision count (all ++ more))
       → (rest : List ℕ) × (table.weights ≡ done ++ rest) × (coming ++ more ≡ weight_bits 0 rest ++ table.rest)
 
+-- before the first entry no weights were read
 pub reached_none : (precision count : ℕ) (all : List ℕ) (left : ℕ) → left ≡ 2 ^ precision → Reached precision count all [] all left
 reached_none precision count all left e = record {
   taken = [];
@@ -211,7 +226,9 @@ pub record GoesOn (precision count : ℕ) (all done coming more : List ℕ) (lef
   pub room : length done + entry.run < count
   pub within : entry.weight ≤ left
 
-pub goes_on : (precision count : ℕ) (all done coming : List ℕ) (left : ℕ) → precision ≤ 14 → Reached precision count all done coming left → 0 < left
+-- if quantiles are left, a table goes on by an entry
+pub goes_on : (precision count : ℕ) (all done coming : List ℕ) (left : ℕ) → precision ≤ 14 → Reached precision count all done coming left
+    → 0 < left
     → (more : List ℕ) (table : BeginsWithWeights precision count (all ++ more)) → GoesOn precision count all done coming more left table
 goes_on precision count all done coming left small reached some more table =
     let on = reached.only more table in
@@ -252,7 +269,9 @@ goes_on precision count all done coming left small reached some more table =
       within = omega arith;
     }
 
-pub reached_more : (precision count : ℕ) (all done coming : List ℕ) (left : ℕ) → precision ≤ 14 → Reached precision count all done coming left → 0 < left
+-- one entry more was read
+pub reached_more : (precision count : ℕ) (all done coming : List ℕ) (left : ℕ) → precision ≤ 14
+    → Reached precision count all done coming left → 0 < left
     → (run weight : ℕ) (next : List ℕ) → run < 2 ^ 15 → 0 < weight → weight < 2 ^ 15 → coming ≡ entry_bits run weight ++ next
     → length done + run < count → weight ≤ left → Reached precision count all (done ++ replicate run 0 ++ weight ∷ []) next (left - weight)
 reached_more precision count all done coming left small reached some run weight next run_fits above weight_fits e room within =
@@ -288,7 +307,7 @@ reached_more precision count all done coming left small reached some run weight 
 
 -- a table goes on from bits that end within its next entry
 pub ends_in_weights : (precision count : ℕ) (all done coming : List ℕ) (left : ℕ) → Reached precision count all done coming left → 0 < left
-    → (length done ≡ count → ⊥) → EndsInEntry coming → EndsInWeights precision count all
+    → (length done ≡ count → ⊥) → EndsInEntry coming → EndsInTableBits precision count all
 ends_in_weights precision count all done coming left reached some room cut =
     let fits = reached.fits in
     let total = reached.total in
@@ -315,6 +334,7 @@ pub record WholeTable (precision count : ℕ) (all coming weights : List ℕ) : 
   pub parts : all ≡ weight_bits 0 weights ++ coming
   pub only : (more : List ℕ) (table : BeginsWithWeights precision count (all ++ more)) → table.weights ≡ weights
 
+-- if no quantile is left, the weights and zeros after them are the table's
 pub whole_table : (precision count : ℕ) (all done coming : List ℕ) (left : ℕ) → Reached precision count all done coming left → left ≤ 0
     → WholeTable precision count all coming (done ++ replicate (count - length done) 0)
 whole_table precision count all done coming left reached ended =
@@ -338,6 +358,7 @@ whole_table precision count all done coming left reached ended =
           on.1 ∙ ap (λ xs. done ++ xs) (all_zeros on.0 none ∙ ap (λ k. replicate k 0) many);
     }
 
+-- bits of a table with nothing after them
 pub alone : (precision count : ℕ) (bits : List ℕ) → BeginsWithWeights precision count bits → BeginsWithWeights precision count (bits ++ [])
 alone precision count bits table = subst (BeginsWithWeights precision count) (sym (append-nil bits)) table
 
@@ -360,7 +381,8 @@ length_first weights first =
 
 -- Lists of weights with one total, as long as one another, of which bits begin with the one and with the other, are one. The length goes
 -- down at each entry.
-pub same_weights : (fuel : ℕ) (xs ys r s : List ℕ) → length xs ≤ fuel → length xs ≤ 2 ^ 15 → sum xs < 2 ^ 15 → length xs ≡ length ys → sum xs ≡ sum ys
+pub same_weights : (fuel : ℕ) (xs ys r s : List ℕ) → length xs ≤ fuel → length xs ≤ 2 ^ 15 → sum xs < 2 ^ 15 → length xs ≡ length ys
+    → sum xs ≡ sum ys
     → weight_bits 0 xs ++ r ≡ weight_bits 0 ys ++ s → xs ≡ ys
 same_weights zero xs ys r s short few small many total e =
     let left : xs ≡ [] = nil_from_length xs (omega arith) in

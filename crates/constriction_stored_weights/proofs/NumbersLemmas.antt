@@ -29,6 +29,7 @@ only_length n a b a-above a-below b-above b-below =
     let right : b < a → ⊥ = not_longer n b a b-above a-below in
     omega (arith, left, right)
 
+-- a number below 2^15 has fewer than 16 bits
 pub short : (n : ℕ) → n < 2 ^ 15 → bit_length n < 16
 short n h =
     let bounds = length_bounds n (omega arith) in
@@ -37,10 +38,12 @@ short n h =
 
 -- ---- the bits of a number
 
+-- how many bits it has, and those below its highest one
 pub bits_of_number : (n : ℕ) → number_bits n ≡ bits 4 (bit_length n) ++ bits (bit_length n - 1) n
 unfolding number_bits
 bits_of_number n = refl
 
+-- 0 is four bits of 0
 pub zero_number : number_bits 0 ≡ bits 4 0
 unfolding number_bits
 zero_number =
@@ -48,6 +51,7 @@ zero_number =
     let none : bit_length 0 ≡ 0 = only_length 0 (bit_length 0) 0 bounds.0 bounds.1 (omega arith) (omega arith) in
     rw none (ap (λ xs. bits 4 0 ++ xs) (no_bits 0) ∙ append-nil (bits 4 0))
 
+-- a number of so many bits, the highest of which is 1
 pub number_of_length : (n count : ℕ) → count < 16 → 0 < count → 2 ^ (count - 1) ≤ n → n < 2 ^ count
     → number_bits n ≡ bits 4 count ++ bits (count - 1) n
 unfolding number_bits
@@ -87,6 +91,7 @@ length_first n count up rest h few e =
     let length_fits = short n h in
     (same_bits 4 count (bit_length n) (omega arith) both.0, both.1)
 
+-- bits begin with one number at most
 pub same_number : (a b : ℕ) (r s : List ℕ) → a < 2 ^ 15 → b < 2 ^ 15 → number_bits a ++ r ≡ number_bits b ++ s → (a ≡ b) × (r ≡ s)
 same_number a b r s a-fits b-fits e =
     let count = bit_length a in
@@ -101,7 +106,8 @@ same_number a b r s a-fits b-fits e =
 -- ---- cut numbers
 
 -- bits that a number goes on from begin with no number
-pub no_number_yet : (given : List ℕ) → EndsInNumber given → (number : ℕ) (rest : List ℕ) → number < 2 ^ 15 → given ≡ number_bits number ++ rest → ⊥
+pub no_number_yet : (given : List ℕ) → EndsInNumber given → (number : ℕ) (rest : List ℕ) → number < 2 ^ 15
+    → given ≡ number_bits number ++ rest → ⊥
 no_number_yet given cut number rest fits e =
     let goes_on = cut.goes_on in
     let same = same_number number cut.number (rest ++ cut.more) [] fits cut.fits
@@ -141,7 +147,8 @@ ends_in_length given cut =
     }
 
 -- a number goes on from its length and bits that end within it
-pub ends_in_bits : (count : ℕ) (given rest : List ℕ) → count < 16 → given ≡ bits 4 count ++ rest → EndsInBits 1 (count - 1) rest → EndsInNumber given
+pub ends_in_bits : (count : ℕ) (given rest : List ℕ) → count < 16 → given ≡ bits 4 count ++ rest → EndsInBits 1 (count - 1) rest
+    → EndsInNumber given
 ends_in_bits count given rest few e cut =
     let missing = count - 1 - cut.taken in
     let cut_few = cut.few in

@@ -5,8 +5,8 @@ use Rattle.constriction.specs.declared.CoderError.TheVariants.{Frontend, Backend
 use Rattle.constriction_backends.specs.Source.{ReadsUpcoming}
 use Rattle.constriction_backends.specs.lemmas.Source.{reads_upcoming_all}
 use Rattle.constriction_stored_weights.specs.StoredWeights.{weights_as_words, BeginsWeights, EndsInWeights, ReadsWeights, StopsReadingWeights}
-use Rattle.constriction_stored_weights.specs.declared.ReadingError.{ReadingError}
-use Rattle.constriction_stored_weights.specs.declared.ReadingError.TheVariants.{TooFewWords, NotAccepted, OutOfMemory}
+use Rattle.constriction_stored_weights.specs.declared.errors.ReadingError.{ReadingError}
+use Rattle.constriction_stored_weights.specs.declared.errors.ReadingError.TheVariants.{TooFewWords, NotAccepted, OutOfMemory}
 
 -- words that are stored weights, and begin with stored weights, are these
 pub same-weights : (weights others rest : List ℕ) → weights_as_words weights ≡ weights_as_words others ++ rest → others ≡ weights

@@ -4,11 +4,12 @@ use Rattle.std.proofs.Math.Nat.{pow-le-pow_right}
 use Rattle.std.proofs.lemmas.List.{append_cancel_left, append_cancel_right, take-append-drop, take_at, length-replicate}
 use Rattle.constriction_stored_weights.specs.Bits.{bits, bits_of_bytes}
 use Rattle.constriction_stored_weights.specs.Tables.{weight_bits, IsTableText, BeginsWithTable, EndsInTable}
-use Rattle.constriction_stored_weights.specs.private.Entries.{BeginsWithWeights, EndsInWeights}
+use Rattle.constriction_stored_weights.specs.private.Entries.{BeginsWithWeights, EndsInTableBits}
 use Rattle.constriction_stored_weights.proofs.BitsLemmas.{apart, no_bits, length-bits, bits_of_bytes-append, length-bits_of_bytes, zero_bits, none_left}
 use Rattle.constriction_stored_weights.proofs.EntriesLemmas.{same_weights}
 
-pub bits_of_table : (precision count : ℕ) (whole bytes more : List ℕ) → whole ≡ bytes ++ more → (table : BeginsWithTable precision count whole)
+pub bits_of_table : (precision count : ℕ) (whole bytes more : List ℕ) → whole ≡ bytes ++ more
+    → (table : BeginsWithTable precision count whole)
     → bits 0 0 ++ bits_of_bytes bytes ++ bits_of_bytes more
     ≡ weight_bits 0 table.weights ++ (replicate table.is_text.padding 0 ++ bits_of_bytes table.rest)
 bits_of_table precision count whole bytes more e table =
@@ -29,13 +30,15 @@ begins_with_weights precision count whole bytes more e table = record {
   bits_are = bits_of_table precision count whole bytes more e table;
 }
 
+-- bytes that begin with a table begin with its weights' bits
 pub begins_alone : (precision count : ℕ) (bytes : List ℕ) → BeginsWithTable precision count bytes
     → BeginsWithWeights precision count (bits 0 0 ++ bits_of_bytes bytes)
 begins_alone precision count bytes table =
     subst (BeginsWithWeights precision count) (append-nil (bits 0 0 ++ bits_of_bytes bytes))
     (begins_with_weights precision count bytes bytes [] (sym (append-nil bytes)) table)
 
-pub ends_in_table : (precision count : ℕ) (bytes : List ℕ) → EndsInWeights precision count (bits 0 0 ++ bits_of_bytes bytes)
+-- bytes whose bits end within an entry end in a table
+pub ends_in_table : (precision count : ℕ) (bytes : List ℕ) → EndsInTableBits precision count (bits 0 0 ++ bits_of_bytes bytes)
     → EndsInTable precision count bytes
 ends_in_table precision count bytes cut = record {
   weights = cut.weights;
@@ -50,7 +53,8 @@ ends_in_table precision count bytes cut = record {
 }
 
 -- texts of the same weights are as long
-pub same_length : (weights others text longer : List ℕ) → others ≡ weights → IsTableText weights text → IsTableText others longer → length longer ≡ length text
+pub same_length : (weights others text longer : List ℕ) → others ≡ weights → IsTableText weights text → IsTableText others longer
+    → length longer ≡ length text
 same_length weights others text longer e a b =
     let a-fills = a.fills in
     let b-fills = b.fills in
@@ -68,7 +72,8 @@ same_length weights others text longer e a b =
     )
 
 -- of bytes that begin with texts of the same weights, these are the same bytes
-pub same_text : (weights others bytes text rest : List ℕ) (next : ℕ) → others ≡ weights → next ≤ length bytes → IsTableText weights (take next bytes)
+pub same_text : (weights others bytes text rest : List ℕ) (next : ℕ) → others ≡ weights → next ≤ length bytes
+    → IsTableText weights (take next bytes)
     → IsTableText others text → bytes ≡ text ++ rest → text ≡ take next bytes
 same_text weights others bytes text rest next e within a b bytes_are =
     let long : length text ≡ next = omega (arith, same_length weights others (take next bytes) text e a b, length-take next bytes) in

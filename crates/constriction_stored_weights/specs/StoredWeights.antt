@@ -6,10 +6,10 @@ use Rattle.constriction.specs.declared.CoderError.TheVariants.{Frontend, Backend
 use Rattle.constriction.specs.Rows.{Row, rows_of}
 use Rattle.constriction_backends.specs.Sink.{StopsAtWord, Writes}
 use Rattle.constriction_backends.specs.Source.{Reads}
-use Rattle.constriction_stored_weights.specs.declared.ReadingError.{ReadingError}
-use Rattle.constriction_stored_weights.specs.declared.ReadingError.TheVariants as reading
-use Rattle.constriction_stored_weights.specs.declared.StoringError.{StoringError}
-use Rattle.constriction_stored_weights.specs.declared.StoringError.TheVariants as storing
+use Rattle.constriction_stored_weights.specs.declared.errors.ReadingError.{ReadingError}
+use Rattle.constriction_stored_weights.specs.declared.errors.ReadingError.TheVariants as reading
+use Rattle.constriction_stored_weights.specs.declared.errors.StoringError.{StoringError}
+use Rattle.constriction_stored_weights.specs.declared.errors.StoringError.TheVariants as storing
 
 -- weights as words: how many there are, and then the weights
 abbrev pub weights_as_words : List ℕ → List ℕ

@@ -1,14 +1,14 @@
 //! Weights and the runs of zeros before them.
 
-ghost use Rattle.std.specs.Prelude.{◌≡◌, ◌≢◌, [], ℕ, List, ◌∷◌, ◌++◌, ◌+◌, ◌*◌, ◌-◌, ◌^◌, ◌<◌, ◌≤◌, Err, IfOk, OnOk, length, replicate, sum};
+ghost use Rattle.std.specs.Prelude.{◌≡◌, ◌≢◌, [], ℕ, List, ◌++◌, ◌+◌, ◌*◌, ◌-◌, ◌^◌, ◌<◌, ◌≤◌, Err, IfOk, OnOk, length, replicate, sum};
 ghost use Rattle.std.specs.Vec.{vec_capacity};
-ghost use Rattle.constriction_stored_weights.specs.Tables.{entry_bits, weight_bits, IsTable, IsTableText};
-ghost use Rattle.constriction_stored_weights.specs.private.Entries.{BeginsWithEntry, BeginsWithWeights, EndsInEntry, EndsInWeights};
+ghost use Rattle.constriction_stored_weights.specs.Tables.{entry_bits, weight_bits, IsTableText};
+ghost use Rattle.constriction_stored_weights.specs.private.Entries.{BeginsWithEntry, BeginsWithWeights, EndsInEntry, EndsInTableBits};
 ghost use Rattle.constriction_stored_weights.specs.private.Places.{Extends, upcoming};
 
+use crate::errors::TableReadingError;
 use crate::places::{ReadPlace, WritePlace};
 use crate::reading::read_number;
-use crate::table_errors::TableReadingError;
 use crate::writing::{fill_byte, push_number, push_run};
 use std::alloc::AllocError;
 
@@ -60,7 +60,7 @@ fn push_zeros(weights: &mut Vec<u32>, count: usize)
 }
 
 /// Reads the weights of a table, into an empty list with room for them.
-pub fn read_entries<const PRECISION: usize>(
+pub(crate) fn read_entries<const PRECISION: usize>(
     bytes: &[u8],
     place: &mut ReadPlace,
     count: usize,
@@ -82,7 +82,7 @@ pub fn read_entries<const PRECISION: usize>(
     ensures cut { result ≡ Err TableReadingError.TooFewBytes
         → ¬ (BeginsWithWeights PRECISION count (upcoming bytes.now place.old)) }
     ensures ends { result ≡ Err TableReadingError.TooFewBytes
-        → EndsInWeights PRECISION count (upcoming bytes.now place.old) }
+        → EndsInTableBits PRECISION count (upcoming bytes.now place.old) }
     ensures not_a_table { result ≡ Err TableReadingError.NotATable → (more : List ℕ)
         → ¬ (BeginsWithWeights PRECISION count (upcoming bytes.now place.old ++ more)) }
     ensures memory { result ≢ Err TableReadingError.OutOfMemory }
@@ -105,7 +105,7 @@ pub fn read_entries<const PRECISION: usize>(
 }
 
 /// Adds the text of weights.
-pub fn push_weights(bytes: &mut Vec<u8>, weights: &[u32]) -> Result<(), AllocError>
+pub(crate) fn push_weights(bytes: &mut Vec<u8>, weights: &[u32]) -> Result<(), AllocError>
     requires few { length weights.now ≤ 2 ^ 15 }
     requires small { sum weights.now < 2 ^ 15 }
     ensures extends { Extends bytes.old.items bytes.new.items }

@@ -1,10 +1,10 @@
 //! Places in bytes that are read and written bit by bit, the highest bit of each byte first.
 
-ghost use Rattle.std.specs.Prelude.{◌≡◌, ◌^◌, ◌<◌};
+ghost use Rattle.std.specs.Prelude.{◌^◌, ◌<◌};
 
 /// Where the next bit is that is read.
 #[derive(Clone, Copy)]
-pub struct ReadPlace {
+pub(crate) struct ReadPlace {
     /// The number of bytes of which a bit was read.
     pub next: usize,
     /// The last of these bytes.
@@ -16,7 +16,7 @@ pub struct ReadPlace {
 
 /// The bits that do not fill a byte yet.
 #[derive(Clone, Copy)]
-pub struct WritePlace {
+pub(crate) struct WritePlace {
     pub byte: u8,
     /// How many bits there are.
     pub filled: u32,

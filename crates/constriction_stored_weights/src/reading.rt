@@ -1,6 +1,6 @@
 //! Bits and numbers that are read from bytes.
 
-ghost use Rattle.std.specs.Prelude.{◌≡◌, [], ℕ, List, ◌∷◌, ◌++◌, ◌+◌, ◌*◌, ◌-◌, ◌^◌, ◌<◌, ◌≤◌, ◌≢◌, IfSome, length, None};
+ghost use Rattle.std.specs.Prelude.{◌≡◌, [], ◌∷◌, ◌++◌, ◌+◌, ◌*◌, ◌-◌, ◌^◌, ◌<◌, ◌≤◌, IfSome, length, None};
 ghost use Rattle.constriction_stored_weights.specs.Bits.{bits};
 ghost use Rattle.constriction_stored_weights.specs.Tables.{number_bits};
 ghost use Rattle.constriction_stored_weights.specs.private.Entries.{EndsInBits, EndsInNumber};
@@ -50,7 +50,7 @@ fn read_bits(bytes: &[u8], place: &mut ReadPlace, above: u32, count: u32) -> Opt
 }
 
 /// Reads a number.
-pub fn read_number(bytes: &[u8], place: &mut ReadPlace) -> Option<u32>
+pub(crate) fn read_number(bytes: &[u8], place: &mut ReadPlace) -> Option<u32>
     requires { place.old.next ≤ length bytes.now }
     ensures within { place.new.next ≤ length bytes.now }
     ensures some { IfSome result (λ number. (number < 2 ^ 15)

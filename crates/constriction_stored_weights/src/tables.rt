@@ -5,8 +5,8 @@ ghost use Rattle.std.specs.List.{All};
 ghost use Rattle.constriction_stored_weights.specs.Tables.{BeginsWithTable, EndsInTable, IsTable, IsTableText};
 
 use crate::entries::{push_weights, read_entries};
+use crate::errors::{TableReadingError, TableWritingError};
 use crate::places::ReadPlace;
-use crate::table_errors::{TableReadingError, TableWritingError};
 use constriction::backends::ReadWriteError;
 use std::alloc::Global;
 

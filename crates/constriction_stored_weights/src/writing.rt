@@ -1,6 +1,6 @@
 //! Bits and numbers that are written to bytes.
 
-ghost use Rattle.std.specs.Prelude.{◌≡◌, [], ℕ, List, ◌∷◌, ◌++◌, ◌+◌, ◌*◌, ◌-◌, ◌^◌, ◌<◌, ◌≤◌, OnOk, length, replicate};
+ghost use Rattle.std.specs.Prelude.{◌≡◌, [], ℕ, ◌∷◌, ◌++◌, ◌+◌, ◌*◌, ◌-◌, ◌^◌, ◌<◌, OnOk, length, replicate};
 ghost use Rattle.constriction_stored_weights.specs.Bits.{bits, bits_of_bytes};
 ghost use Rattle.constriction_stored_weights.specs.Tables.{number_bits, run_bits};
 ghost use Rattle.constriction_stored_weights.specs.private.Places.{Extends, held};
@@ -49,7 +49,7 @@ fn push_bits(
 }
 
 /// Adds a number.
-pub fn push_number(
+pub(crate) fn push_number(
     bytes: &mut Vec<u8>,
     place: &mut WritePlace,
     number: u32,
@@ -65,7 +65,11 @@ pub fn push_number(
 }
 
 /// Adds a run of zeros.
-pub fn push_run(bytes: &mut Vec<u8>, place: &mut WritePlace, zeros: u32) -> Result<(), AllocError>
+pub(crate) fn push_run(
+    bytes: &mut Vec<u8>,
+    place: &mut WritePlace,
+    zeros: u32,
+) -> Result<(), AllocError>
     requires { zeros < 2 ^ 15 }
     ensures extends { Extends bytes.old.items bytes.new.items }
     ensures ok { OnOk result
@@ -79,7 +83,7 @@ pub fn push_run(bytes: &mut Vec<u8>, place: &mut WritePlace, zeros: u32) -> Resu
 }
 
 /// Fills the last byte with zeros.
-pub fn fill_byte(bytes: &mut Vec<u8>, place: WritePlace) -> Result<(), AllocError>
+pub(crate) fn fill_byte(bytes: &mut Vec<u8>, place: WritePlace) -> Result<(), AllocError>
     ensures extends { Extends bytes.old.items bytes.new.items }
     ensures ok { OnOk result ((padding : ℕ) × (padding < 8)
         × (bits_of_bytes bytes.new.items ≡ held bytes.old.items place ++ replicate padding 0)) }

@@ -3,6 +3,7 @@ use Rattle.std.specs.Prelude.{◌≡◌, ℕ, ◌+◌, ◌*◌, ◌^◌, ◌<◌
 use Rattle.constriction_stored_weights.specs.Bits.{bits}
 use Rattle.constriction_stored_weights.specs.Tables.{number_bits, entry_bits, weight_bits, IsTable}
 
+-- bits that begin with an entry
 pub record BeginsWithEntry (bits : List ℕ) : Type 0 where
   pub run : ℕ
   pub weight : ℕ
@@ -48,7 +49,7 @@ pub record EndsInEntry (given : List ℕ) : Type 0 where
   pub bits_are : given ++ more ≡ entry_bits run weight
 
 -- bits that end within the entry after weights over fewer quantiles than a table's
-pub record EndsInWeights (precision count : ℕ) (given : List ℕ) : Type 0 where
+pub record EndsInTableBits (precision count : ℕ) (given : List ℕ) : Type 0 where
   pub weights : List ℕ
   pub run : ℕ
   pub weight : ℕ

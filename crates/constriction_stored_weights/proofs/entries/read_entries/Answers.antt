@@ -4,7 +4,7 @@ use Rattle.std.proofs.lemmas.Result.{err_from_is_err_and}
 use Rattle.constriction_stored_weights.specs.Tables.{entry_bits}
 use Rattle.constriction_stored_weights.specs.private.Entries.{BeginsWithEntry}
 use Rattle.constriction_stored_weights.specs.private.Places.{upcoming}
-use Rattle.constriction_stored_weights.specs.declared.table_errors.TableReadingError.TheVariants.{TooFewBytes, NotATable}
+use Rattle.constriction_stored_weights.specs.declared.errors.TableReadingError.TheVariants.{TooFewBytes, NotATable}
 use Rattle.constriction_stored_weights.proofs.EntriesLemmas.{reached_none, reached_more, goes_on, same_entry, extended, whole_table, ends_in_weights, alone}
 use Rattle.constriction_stored_weights.proofs.entries.read_entries.Goals as goal
 use Rattle.constriction_stored_weights.proofs.entries.read_entries.Goals.{then-zeros-count-via-then-zeros-count, then-zeros-count-via-else-zeros-count+then-weight-left}

@@ -5,7 +5,7 @@ use Rattle.constriction_stored_weights.specs.Bits.{bits, bits_of_bytes}
 use Rattle.constriction_stored_weights.specs.Tables.{weight_bits, IsTableText}
 use Rattle.constriction_stored_weights.specs.private.Places.{upcoming}
 use Rattle.constriction_stored_weights.specs.declared.places.ReadPlace.{ReadPlace}
-use Rattle.constriction_stored_weights.specs.declared.table_errors.TableReadingError.TheVariants.{TooFewBytes, NotATable}
+use Rattle.constriction_stored_weights.specs.declared.errors.TableReadingError.TheVariants.{TooFewBytes, NotATable}
 use Rattle.constriction_stored_weights.proofs.TablesLemmas.{begins_with_weights, begins_alone, ends_in_table, text_read, same_text, zeros_after}
 use Rattle.constriction_stored_weights.proofs.tables.read_table.Goals as goal
 

@@ -1,6 +1,6 @@
 use Rattle.std.proofs.Common.{◌≡◌, [], ◌++◌, Err, length, ap, sym, ◌∙◌, append-nil, refl}
 use Rattle.constriction_stored_weights.specs.Tables.{BeginsWithTable}
-use Rattle.constriction_stored_weights.specs.declared.table_errors.TableReadingError.TheVariants.{NotATable}
+use Rattle.constriction_stored_weights.specs.declared.errors.TableReadingError.TheVariants.{NotATable}
 use Rattle.constriction_stored_weights.proofs.tables.table_comes_back.Goals as goal
 
 -- the bytes are the text of the table

@@ -1,6 +1,6 @@
 use Rattle.std.proofs.Common.{◌∷◌, length, take}
 use Rattle.constriction_backends.specs.Sink.{Writes}
-use Rattle.constriction_stored_weights.proofs.write_weights.Given as goal
+use Rattle.constriction_stored_weights.proofs.weights.write_weights.Given as goal
 
 -- the number of weights and the weights so far were written
 abbrev pub invariant-loop-weight : goal.invariant-loop-weight

@@ -4,7 +4,7 @@ use Rattle.constriction_backends.specs.Source.{Reads}
 use Rattle.constriction_backends.specs.lemmas.Source.{reads_more, reads_upcoming_all}
 use Rattle.constriction_stored_weights.specs.StoredWeights.{weights_as_words}
 use Rattle.constriction_stored_weights.proofs.StoredWeightsLemmas.{too-few}
-use Rattle.constriction_stored_weights.proofs.read_weights.Goals as goal
+use Rattle.constriction_stored_weights.proofs.weights.read_weights.Goals as goal
 
 pub returns-in_err-count-clause-err : goal.returns-in_err-count-clause-err
 returns-in_err-count-clause-err g c =

@@ -1,6 +1,6 @@
 use Rattle.std.proofs.Common.{◌≡◌, ◌++◌, map}
 use Rattle.constriction.specs.Rows.{Row}
-use Rattle.constriction_stored_weights.proofs.row_weights.Given as goal
+use Rattle.constriction_stored_weights.proofs.models.row_weights.Given as goal
 
 -- the weights so far, and those of the rows that are left, are those of all rows
 abbrev pub invariant-loop-row : goal.invariant-loop-row

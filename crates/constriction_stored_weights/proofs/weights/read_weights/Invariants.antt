@@ -1,6 +1,6 @@
 use Rattle.std.proofs.Common.{◌≡◌, ◌+◌, ◌*◌, ◌≤◌, ◌∷◌, length, vec_capacity}
 use Rattle.constriction_backends.specs.Source.{Reads}
-use Rattle.constriction_stored_weights.proofs.read_weights.Given as goal
+use Rattle.constriction_stored_weights.proofs.weights.read_weights.Given as goal
 
 -- the number of weights and the weights so far were read, and there is room only for these, as many again, and four
 abbrev pub invariant-loop-done : goal.invariant-loop-done

@@ -1,6 +1,26 @@
-//! Why a table was not written or read.
+//! Why weights, a model or a table were not written or read.
 
 use thiserror::Error;
+
+/// Why no model was read.
+#[derive(Debug, PartialEq, Eq, Drop, Error)]
+pub enum ReadingError {
+    #[error("The words end before the weights do.")]
+    TooFewWords,
+    #[error("No model has these weights for these symbols.")]
+    NotAccepted,
+    #[error("Memory for the model was refused.")]
+    OutOfMemory,
+}
+
+/// Why no weights were written.
+#[derive(Debug, PartialEq, Eq, Drop, Error)]
+pub enum StoringError {
+    #[error("There are too many weights.")]
+    TooManyWeights,
+    #[error("Memory for a row of the model was refused.")]
+    OutOfMemory,
+}
 
 /// Why no table was read.
 #[derive(Debug, PartialEq, Eq, Drop, Error)]

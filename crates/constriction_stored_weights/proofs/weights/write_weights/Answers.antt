@@ -5,7 +5,7 @@ use Rattle.std.proofs.lemmas.Result.{err_from_is_err_and}
 use Rattle.constriction_backends.specs.Sink.{Writes}
 use Rattle.constriction_backends.specs.lemmas.Sink.{writes_more, writes_append_all}
 use Rattle.constriction_stored_weights.specs.StoredWeights.{weights_as_words}
-use Rattle.constriction_stored_weights.proofs.write_weights.Goals as goal
+use Rattle.constriction_stored_weights.proofs.weights.write_weights.Goals as goal
 
 pub returns-in_err-write-clause-err : goal.returns-in_err-write-clause-err
 returns-in_err-write-clause-err g c =

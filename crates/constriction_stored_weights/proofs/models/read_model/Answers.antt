@@ -1,7 +1,7 @@
 use Rattle.std.proofs.Common.{Err, ap}
 use Rattle.constriction.specs.Acceptance.{AreAccepted}
 use Rattle.constriction_stored_weights.proofs.StoredWeightsLemmas.{no-model, stops-any}
-use Rattle.constriction_stored_weights.proofs.read_model.Goals as goal
+use Rattle.constriction_stored_weights.proofs.models.read_model.Goals as goal
 
 pub returns-in-Err-clause-err : goal.returns-in-Err-clause-err
 returns-in-Err-clause-err g c =

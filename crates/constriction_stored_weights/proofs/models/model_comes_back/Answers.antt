@@ -5,10 +5,10 @@ use Rattle.constriction.specs.Rows.{Row, rows_of}
 use Rattle.constriction.specs.lemmas.Stand.{tiling-rebuilds}
 use Rattle.constriction.specs.declared.CoderError.{CoderError}
 use Rattle.constriction_stored_weights.specs.StoredWeights.{weights_as_words}
-use Rattle.constriction_stored_weights.specs.declared.ReadingError.TheVariants.{TooFewWords, NotAccepted}
-use Rattle.constriction_stored_weights.specs.declared.StoringError.TheVariants.{TooManyWeights}
+use Rattle.constriction_stored_weights.specs.declared.errors.ReadingError.TheVariants.{TooFewWords, NotAccepted}
+use Rattle.constriction_stored_weights.specs.declared.errors.StoringError.TheVariants.{TooManyWeights}
 use Rattle.constriction_stored_weights.proofs.StoredWeightsLemmas.{same-weights}
-use Rattle.constriction_stored_weights.proofs.model_comes_back.Goals as goal
+use Rattle.constriction_stored_weights.proofs.models.model_comes_back.Goals as goal
 
 pub returns-in-Err-clause-too_many : goal.returns-in-Err-clause-too_many
 returns-in-Err-clause-too_many g c = λ is.
