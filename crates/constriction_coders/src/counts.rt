@@ -160,10 +160,8 @@ pub fn weights_of<const PRECISION: usize>(
         ↔ ((PRECISION ≡ 32) × (occurring counts.now ≡ 1)) }
 {
     let mut weights = Vec::new(alloc);
-    match weigh::<PRECISION>(counts, &mut weights) {
-        Ok(()) => Ok(weights),
-        Err(error) => Err(error),
-    }
+    weigh::<PRECISION>(counts, &mut weights)?;
+    Ok(weights)
 }
 
 /// Counts have one list of weights.

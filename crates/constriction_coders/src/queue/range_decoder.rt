@@ -58,10 +58,9 @@ pub(crate) fn next_or_zero<Source: ReadWords<u32, Queue>>(
     ensures failed { (error : _) → result ≡ Err error
         → Source.read_gives source.old (Err error) source.new }
 {
-    match source.read() {
-        Ok(Some(word)) => Ok(word),
-        Ok(None) => Ok(0),
-        Err(error) => Err(error),
+    match source.read()? {
+        Some(word) => Ok(word),
+        None => Ok(0),
     }
 }
 

@@ -86,10 +86,9 @@ pub(crate) fn refilled<Backend: StackSource<u32>>(
     if state >= 1 << 32 {
         return Ok(state);
     }
-    match words.pop() {
-        Ok(Some(word)) => Ok((state << 32) + word as u64),
-        Ok(None) => Ok(state),
-        Err(error) => Err(error),
+    match words.pop()? {
+        Some(word) => Ok((state << 32) + word as u64),
+        None => Ok(state),
     }
 }
 

@@ -86,10 +86,7 @@ fn exchange<const DRAWN: usize, const CODED: usize, const PAID: usize>(
         × IsOnTop PAID paid.0 paid.1 (held_by coder.new) full) }
     ensures same { OnErr result (held_by coder.new ≡ held_by coder.old) }
 {
-    match coder.words.reserve(2) {
-        Ok(()) => {}
-        Err(error) => return Err(error),
-    }
+    coder.words.reserve(2)?;
     take_from_vec::<DRAWN>(coder, drawn);
     put_reserved::<CODED>(coder, coded);
     put_reserved::<PAID>(coder, paid);
