@@ -99,11 +99,13 @@ module _ {Coder Content Symbol : Type 0} (held : Coder → Content) (Step : Symb
   together : after ≡ first.0.done ++ rest
   together = is ∙ ap (λ ys. ys ++ rest) own
 
+  -- if the others lead on, all do
   pub rest-filled : (last : Content) → InTurn Step rest (held reached) last → InTurn Step after old last
   rest-filled last led =
       subst (λ (ys : List Symbol). InTurn Step ys old last) (sym together)
       (turns-append Step first.0.done rest old (held reached) last first.0.led led)
 
+  -- if the others stop at an error, all do
   pub rest-stops : {Fault E : Type 0} (Tells : Coder → Result Symbol (CoderError Fault E) → Coder → Type 0) (error : CoderError Fault E)
       (new : Coder) → FillingStops held Step Tells (drop from symbols) rest error (held reached) new
       → FillingStops held Step Tells before after error old new

@@ -61,16 +61,6 @@ module _ (words raised : List ℕ) (lower range point_lower : ℕ) (wide : 2 ^ 3
         is = inr (omega (arith, point_is, below), number, many);
       }
 
--- how many words a point has
-pub counted : (words all : List ℕ) (lower range : ℕ) (sealed : IsPointOf (span_of words lower range) all)
-    → (lower + range < ((lower + (2 ^ 32 - 1)) / 2 ^ 32 + 1) * 2 ^ 32 → length all ≡ length words + 2)
-    × (((lower + (2 ^ 32 - 1)) / 2 ^ 32 + 1) * 2 ^ 32 ≤ lower + range → length all ≡ length words + 1)
-counted words all lower range sealed =
-    elim sealed.is [
-      | inl short ↦ (λ h. absurd (omega (arith, h, short.0, sealed.from, sealed.least)), λ h. short.2)
-      | inr rest ↦ (λ h. rest.2, λ h. absurd (omega (arith, h, rest.0, sealed.from, sealed.least)))
-    ]
-
 -- whatever words come after a point, the number of all of them begins with it, and is in the span
 point-first : (s : Span) (words more : List ℕ) → All (λ w. w < 2 ^ 32) (words ++ more) → (sealed : IsPointOf s words)
     → (sealed.point * 2 ^ 32 ≤ number_first (s.written + 2) (words ++ more))

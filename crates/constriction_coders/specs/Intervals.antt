@@ -13,6 +13,7 @@ pub record Interval : Type 0 where
   pub range : ℕ
   pub offset : ℕ
 
+-- the same, from both
 abbrev pub interval : ℕ → ℕ → Interval
 interval r o = record { range = r; offset = o }
 
@@ -67,6 +68,7 @@ pub record Held (S : Type 0) : Type 0 where
   pub held : Interval
   pub source : S
 
+-- the same, from its parts
 abbrev pub held_of : {S : Type 0} → ℕ → ℕ → S → Held S
 held_of range offset source = record { held = interval range offset; source = source }
 

@@ -29,6 +29,7 @@ pub record StackComesBack {Symbol Place : Type 0} (places : List Symbol → List
 -- Each symbol is coded by a model of its own, and place by place the models that encode and decode have the same entries.
 module _ {Symbol Model Other : Type 0} (eq : Symbol → Symbol → Bool) (rows : Model → List (Row Symbol)) (Stands : Symbol → Symbol → Type 0)
     (other_rows : Other → List (Row Symbol)) where
+  -- in either list the models of a place have the same entries
   abbrev pub HaveSameEntries : List (Symbol × Model) → List (Symbol × Other) → Type 0
   HaveSameEntries = AllZip (λ pair other. SameEntries eq (rows pair.1) (other_rows other.1))
 
@@ -36,6 +37,7 @@ module _ {Symbol Model Other : Type 0} (eq : Symbol → Symbol → Bool) (rows :
   abbrev pub StandForPairs : List (Symbol × Model) → List (Symbol × Other) → Type 0
   StandForPairs = AllZip (λ pair other. StandsForEqual Stands eq pair.0 other.0)
 
+  -- what is encoded by the first models of pairs comes back by the second ones
   pub record PairsComeBack (precision : ℕ) : Type 0 where
     -- as many symbols come back as were encoded, and what was under them is left
     pub symbols : (pairs : List (Symbol × Model)) (others : List (Symbol × Other)) (full rest under : Content)

@@ -7,6 +7,7 @@ use Rattle.constriction_coders.specs.RangeLaws.{IsAt}
 use Rattle.constriction_coders.specs.Spans.{Span, IsNarrowed, IsReached, IsSealed}
 use Rattle.constriction_coders.specs.declared.queue.positions.RangeCoderState.{RangeCoderState}
 
+-- the state of these
 abbrev pub coder_state : (lower range : ℕ) → RangeCoderState
 coder_state l r = record { lower = l; range = r }
 

@@ -12,6 +12,7 @@ pub record Span : Type 0 where
   pub size : ℕ
   pub written : ℕ
 
+-- the same, from its parts
 abbrev pub span : (low size written : ℕ) → Span
 span l s w = record { low = l; size = s; written = w }
 

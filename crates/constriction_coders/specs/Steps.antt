@@ -11,6 +11,7 @@ pub record Content : Type 0 where
   pub state : ℕ
   pub words : List ℕ
 
+-- the same, from both
 abbrev pub content : ℕ → List ℕ → Content
 content s ws = record { state = s; words = ws }
 

@@ -21,7 +21,8 @@ range-push a (suc n) =
     ∙ ap (λ xs. a ∷ xs) (range-push (a + 1) n ∙ ap (λ k. range_with_len (a + 1) n ++ k ∷ []) (let e : a + 1 + n ≡ a + suc n = omega arith in e))
 
 -- one more symbol
-pub symbols-push : {S : Type 0} (symbol_of : ℕ → S) (n : ℕ) → first_symbols symbol_of (n + 1) ≡ first_symbols symbol_of n ++ symbol_of n ∷ []
+pub symbols-push : {S : Type 0} (symbol_of : ℕ → S) (n : ℕ)
+    → first_symbols symbol_of (n + 1) ≡ first_symbols symbol_of n ++ symbol_of n ∷ []
 symbols-push symbol_of n =
     ap (map symbol_of) (range-push 0 n) ∙ map-append symbol_of (range_with_len 0 n) ((0 + n) ∷ [])
     ∙ ap (λ k. first_symbols symbol_of n ++ symbol_of k ∷ []) (let e : 0 + n ≡ n = omega arith in e)
@@ -80,7 +81,8 @@ module _ {S : Type 0} (number : S → ℕ) (symbol_of : ℕ → S) (back : (n : 
       (absent-from (a + 1) (l + w) ws n (omega arith))
 
   -- no row has the symbol of a number past the weights
-  pub weighted-absent : (ws : List ℕ) → list_any (same_number number (symbol_of (length ws))) (symbols_of (weighted_rows symbol_of ws)) ≡ false
+  pub weighted-absent : (ws : List ℕ)
+      → list_any (same_number number (symbol_of (length ws))) (symbols_of (weighted_rows symbol_of ws)) ≡ false
   weighted-absent ws = absent-from 0 0 ws (length ws) (omega arith)
 
 module _ {S : Type 0} (symbol_of : ℕ → S) (ws : List ℕ) (i : ℕ) (h : i < length ws) where
@@ -212,6 +214,7 @@ accepted-of bits precision ws narrow positive total =
     let less : 2 ^ precision < 2 ^ bits = pow-lt narrow in
     record { tiles = record { positive = positive; total = total }; fit = below-sum (2 ^ bits) ws (omega arith) }
 
+-- weights above 0, and another one
 pub all-push : (ws : List ℕ) (w : ℕ) → All (λ v. 0 < v) ws → 0 < w → All (λ v. 0 < v) (ws ++ w ∷ [])
 all-push [] w p h = All-cons (λ v. 0 < v) w [] h (All-nil (λ v. 0 < v))
 all-push (x ∷ ws) w p h =

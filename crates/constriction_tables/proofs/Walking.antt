@@ -7,7 +7,7 @@ use Rattle.std.proofs.lemmas.List.{drop-drop, get_or-drop, get_or-map, get_or-re
 use Rattle.std.proofs.lemmas.List.{length-append, length-drop, length-map, length-replicate}
 use Rattle.std.proofs.lemmas.List.Elements.{All-head, All-tail}
 use Rattle.constriction_model.specs.Rows.{Row, rows_from, symbols_of}
-use Rattle.constriction_tables.specs.Table.{numbered, rows_after, rows_begun, spread, IsTable, StandsFrom}
+use Rattle.constriction_tables.specs.Table.{numbered, rows_after, rows_begun, spread, StandsFrom}
 use Rattle.constriction_tables.specs.lemmas.Tables.{begun-row, same-numbered}
 use Rattle.constriction_tables.proofs.Reading.{row-made}
 
@@ -78,16 +78,13 @@ module _ {S : Type 0} (number : S → ℕ) (same : (s t : S) → number s ≡ nu
           absurd (omega arith)
       go (r ∷ rs) is = subst (λ (x : Row S). IsNext q places x) (sym (first-place q places r d rs t is)) (next-known q places r rs t is)
 
-  -- at the beginning all rows are left
-  pub stands-first : (bits precision : ℕ) (table : List (Row S)) → IsTable number bits precision table → StandsFrom number 0 (drop 0 table)
-  stands-first bits precision table t = record { positive = t.accepted.tiles.positive; in_order = t.in_order; each = t.each }
-
   -- a step reads the row at a place, which is the first of those that are left, and goes on where it ends
   pub record IsStep {E : Type 0} (row_in : E → Row S) (items : List E) (from : ℕ) (e : E) : Type 0 where
     pub first : rows_after from (map row_in items) ≡ row_in e ∷ rows_after (from + (row_in e).weight) (map row_in items)
     pub rest : StandsFrom number (from + (row_in e).weight) (drop (from + (row_in e).weight) (map row_in items))
     pub within : from + (row_in e).weight ≤ length items
 
+  -- the step from a place that begins a row
   pub step-at : {E : Type 0} (row_in : E → Row S) (items : List E) (from : ℕ) (e : E) → from < length items → e ≡ get_or items from e
       → StandsFrom number from (drop from (map row_in items)) → IsStep row_in items from e
   step-at {E} row_in items from e h is t =
@@ -115,6 +112,7 @@ module _ {S : Type 0} (number : S → ℕ) (same : (s t : S) → number s ≡ nu
         step.first ∙ ap (λ r. r ∷ rows_after (from + (row_in e).weight) (map row_in items)) (row-made (row_in e) s l v es el (ev ∙ weight))
         ∙ ap (λ k. record { symbol = s; left = l; weight = v } ∷ rows_after (from + k) (map row_in items)) (sym weight)
 
+    -- the rows that are left after it
     pub step-rest : StandsFrom number (from + w) (drop (from + w) (map row_in items))
     step-rest = subst (λ (k : ℕ). StandsFrom number (from + k) (drop (from + k) (map row_in items))) (sym weight) step.rest
 

@@ -1,6 +1,6 @@
 //! Making a model of rows.
 
-ghost use Rattle.std.specs.Prelude.{◌≡◌, ◌≤◌, List};
+ghost use Rattle.std.specs.Prelude.{◌≡◌, List};
 ghost use Rattle.constriction_model.specs.Precision.{IsPrecision};
 ghost use Rattle.constriction_model.specs.Rows.{Row, RowsTile};
 ghost use Rattle.constriction_tables.specs.ModelRows.{table_model_rows};

@@ -1,9 +1,9 @@
--- The words of a stack have one content and one list of so many symbols, and they are few.
-use Rattle.std.proofs.Common.{◌≡◌, ℕ, ◌+◌, ◌*◌, ◌%◌, ◌^◌, ◌≤◌, Bool, true, List, [], ◌∷◌, Option, length, reverse, refl, ap, sym, ◌∙◌}
+-- The words of a stack have one content, and one list of so many symbols.
+use Rattle.std.proofs.Common.{◌≡◌, ℕ, ◌+◌, ◌*◌, ◌%◌, ◌^◌, Bool, true, List, [], ◌∷◌, Option, length, reverse, refl, ap, sym, ◌∙◌}
 use Rattle.std.proofs.Common.{subst, arith, inl, inr, nat_eq}
 use Rattle.std.proofs.lemmas.Bool.{eqb-true}
 use Rattle.std.proofs.lemmas.Cmp.{nat_eq_equiv}
-use Rattle.std.proofs.lemmas.List.{length-append, length_push, reverse-append, reverse-reverse, same_from_push}
+use Rattle.std.proofs.lemmas.List.{length_push, reverse-append, reverse-reverse, same_from_push}
 use Rattle.std.proofs.lemmas.List.Elements.{same_from_all_zip}
 use Rattle.std.proofs.lemmas.List.FromFn.{length-range_with_len}
 use Rattle.std.proofs.lemmas.Nat.{pow_pos, mod_below}
@@ -97,25 +97,3 @@ numbers-once precision ws numbers others words accepted p q many =
     record { accepted = rw weights-rows_from accepted; in_order = rw (weights-rows_from, symbols-rows_from) refl } in
     let equal = symbols-once nat_eq _ _ precision 32 tile nat_eq_equiv (λ s. refl) numbers others words p q many in
     sym (same_from_all_zip (λ s t. IsTrue (nat_eq s t)) numbers others equal (λ s t h. sym (eqb-true s t h)))
-
--- a symbol adds at most one word
-led-words : {Symbol : Type 0} (entry : Symbol → Option (ℕ × ℕ)) (precision : ℕ) (symbols : List Symbol) (full last : Content)
-    → InTurn (λ s. IsEncoded (entry s) precision) symbols full last → length full.words ≤ length symbols + length last.words
-led-words entry precision [] full last h = omega (arith, ap (λ (c : Content). length c.words) h)
-led-words entry precision (s ∷ ss) full last h =
-    let others = led-words entry precision ss h.0 last h.2 in
-    elim h.1.top.under [
-      | inl x ↦ omega (arith, others, ap (λ (c : Content). length c.words) x.1)
-      | inr x ↦ omega (arith, others, ap length x.3, length_push h.0.words x.1)
-    ]
-
--- and the state at most two
-pub stack-words : {Symbol : Type 0} (entry : Symbol → Option (ℕ × ℕ)) (precision : ℕ) (symbols : List Symbol) (words : List ℕ)
-    → IsStackOf entry precision symbols words → length words ≤ length symbols + 2
-stack-words entry precision symbols words h =
-    let under = led-words entry precision symbols h.full (content 0 []) h.led in
-    elim h.compressed.words [
-      | inl x ↦ omega (arith, under, ap length x.1)
-      | inr (inl x) ↦ omega (arith, under, ap length x.2, length-append {A = ℕ})
-      | inr (inr x) ↦ omega (arith, under, ap length x.1, length-append {A = ℕ})
-    ]

@@ -1,11 +1,9 @@
 //! A range encoder: what is encoded first is decoded first.
 
-ghost use Rattle.std.specs.Prelude.{◌≡◌, ◌≢◌, ◌↔◌, ℕ, List, length, None, Err, IfOk, IfErr, OnErr, OnOk, IsTrue};
+ghost use Rattle.std.specs.Prelude.{◌≡◌, ◌≢◌, ◌↔◌, ℕ, List, length, Err, IfOk, IfErr, OnErr, IsTrue};
 ghost use Rattle.constriction_coders.specs.RangeDecoder.{held_by};
 ghost use Rattle.constriction_coders.specs.RangeLaws.{IsAt};
 ghost use Rattle.constriction_coders.specs.Spans.{whole, IsNarrowed, IsNarrowingFault, IsSealed, LeadTo};
-ghost use Rattle.constriction_model.specs.Coding.{InTurn};
-ghost use Rattle.constriction_model.specs.Rows.{entry_of};
 
 use crate::code::Code;
 use crate::encode::Encode;

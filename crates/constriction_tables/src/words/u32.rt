@@ -1,8 +1,7 @@
 //! Entries of 32 bits: 8 have the symbol, 12 the left cumulative, and 12 the weight less one.
 
-ghost use Rattle.std.specs.Prelude.{◌≡◌, ◌+◌, ◌/◌, ◌%◌, ◌≤◌, refl};
+ghost use Rattle.std.specs.Prelude.{◌+◌, ◌/◌, ◌%◌, refl};
 ghost use Rattle.std.proofs.Common.{arith};
-ghost use Rattle.constriction_model.specs.Rows.{Row};
 
 use crate::entry::TableEntry;
 

@@ -1,8 +1,7 @@
 //! Entries of 64 bits: 16 have the symbol, 16 the left cumulative, and 16 the weight less one.
 
-ghost use Rattle.std.specs.Prelude.{◌≡◌, ◌+◌, ◌/◌, ◌%◌, ◌≤◌, refl};
+ghost use Rattle.std.specs.Prelude.{◌+◌, ◌/◌, ◌%◌, refl};
 ghost use Rattle.std.proofs.Common.{arith};
-ghost use Rattle.constriction_model.specs.Rows.{Row};
 
 use crate::entry::TableEntry;
 
