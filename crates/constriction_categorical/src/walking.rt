@@ -13,7 +13,7 @@ use std::alloc::{AllocError, Global};
 ///
 /// A row is judged before the next step of the walk.
 #[inline]
-pub fn entries_walked<Symbol, Word, Positive, Walk, const PRECISION: usize>(
+pub(crate) fn entries_walked<Symbol, Word, Positive, Walk, const PRECISION: usize>(
     alloc: Global,
     mut walk: Walk,
 ) -> Result<Vec<(Word, Symbol)>, ModelError>
@@ -48,7 +48,7 @@ where
 /// The upper bound that a walk announces is a promise, by the contract of `size_hint`. If there is
 /// room for that many rows, the loop does not test for room.
 #[inline]
-pub fn entries_collected<Symbol, Word, Positive, Walk, const PRECISION: usize>(
+pub(crate) fn entries_collected<Symbol, Word, Positive, Walk, const PRECISION: usize>(
     alloc: Global,
     walk: Walk,
 ) -> Result<Vec<(Word, Symbol)>, AllocError>

@@ -14,7 +14,7 @@ use std::hash::Hash;
 
 /// What a hash table has for a symbol: its left cumulative and its weight.
 #[derive(Debug)]
-pub struct Entry<Word: Copy, Positive: Copy> {
+pub(crate) struct Entry<Word: Copy, Positive: Copy> {
     pub left: Word,
     pub weight: Positive,
 }

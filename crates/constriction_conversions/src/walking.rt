@@ -15,7 +15,7 @@ use std::hash::Hash;
 
 /// A hash table of the rows that a walk gives: for each symbol, the entry of its last row.
 #[inline]
-pub fn table_walked<Symbol, Word, Positive, Walk, const PRECISION: usize>(
+pub(crate) fn table_walked<Symbol, Word, Positive, Walk, const PRECISION: usize>(
     alloc: Global,
     mut walk: Walk,
 ) -> Result<HashMap<Symbol, Entry<Word, Positive>>, AllocError>
