@@ -10,7 +10,7 @@ use std::alloc::{AllocError, Global};
 use std::fmt::{Display, Write};
 
 /// What a line asked for.
-#[derive(Debug, Drop)]
+#[derive(Drop)]
 enum Answer {
     Words(Vec<u32>),
     Symbols(Vec<usize>),

@@ -5,7 +5,7 @@ use constriction_text::parse_number;
 use std::fmt::{self, Display, Formatter};
 
 /// What is done.
-#[derive(Clone, Copy, Debug, PartialEq, Eq)]
+#[derive(Clone, Copy, PartialEq, Eq)]
 pub(crate) enum Action {
     Help,
     Lines,
@@ -32,7 +32,7 @@ impl Action {
 }
 
 /// The arguments, each of which was given at most once.
-#[derive(Clone, Copy, Debug, PartialEq, Eq)]
+#[derive(Clone, Copy)]
 pub(crate) struct Arguments<'a> {
     pub(crate) action: Action,
     pub(crate) level: Option<Level>,
@@ -70,7 +70,7 @@ impl<'a> Arguments<'a> {
 }
 
 /// What the next argument is.
-#[derive(Clone, Copy, Debug, PartialEq, Eq)]
+#[derive(Clone, Copy, PartialEq, Eq)]
 enum Next {
     OptionOrFile,
     File,
@@ -79,7 +79,7 @@ enum Next {
 }
 
 /// Why arguments are refused.
-#[derive(Clone, Copy, Debug)]
+#[derive(Clone, Copy)]
 pub(crate) struct Misuse<'a> {
     action: Action,
     argument: &'a str,

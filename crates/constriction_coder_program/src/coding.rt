@@ -11,7 +11,7 @@ use constriction_coders::{Decode, Encode};
 use std::alloc::{AllocError, Global};
 
 /// Why a line has no words or symbols as its answer.
-#[derive(Debug, Drop)]
+#[derive(Drop)]
 pub(crate) enum Refusal {
     /// The line spells no call.
     BadLine,

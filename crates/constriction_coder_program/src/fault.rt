@@ -21,7 +21,7 @@ pub(crate) enum Fault {
 }
 
 /// A fault, and the name of what it is about.
-#[derive(Clone, Copy, Debug)]
+#[derive(Clone, Copy)]
 pub(crate) struct Failure<'a> {
     pub(crate) name: &'a str,
     pub(crate) fault: Fault,

@@ -4,7 +4,7 @@ use constriction_text::{cut, parse_number};
 use std::alloc::{AllocError, Global};
 
 /// What a line asks of a coder.
-#[derive(Clone, Copy, Debug, PartialEq, Eq)]
+#[derive(Clone, Copy, PartialEq, Eq)]
 pub(crate) enum Call {
     /// `stack-encode P W.. : S..`: the words of the stack coder for these symbols.
     StackEncode,
@@ -29,7 +29,7 @@ impl Call {
 }
 
 /// A line that spells a call.
-#[derive(Debug, Drop)]
+#[derive(Drop)]
 pub(crate) struct Request {
     pub(crate) call: Call,
     pub(crate) precision: u64,
