@@ -8,12 +8,13 @@
 //! Decoding undoes these steps, the last one first. So step 1 costs nothing: what it took from the
 //! coder comes back.
 
-ghost use Rattle.std.specs.Prelude.{◌≡◌, ◌+◌, ◌%◌, ◌^◌, ◌<◌, ◌≤◌, ◌⊎◌, None, Err, IfOk, OnOk, OnErr, length, vec_capacity};
+ghost use Rattle.std.specs.Prelude.{◌≡◌, ◌+◌, ◌%◌, ◌^◌, ◌<◌, ◌≤◌, ◌⊎◌, [], None, Some, Err, IfOk, OnOk, OnErr, length, vec_capacity};
 ghost use Rattle.std.specs.Fn.{FnReturnsAt};
+ghost use Rattle.constriction_model.specs.Model.{AnswersQuantile};
 ghost use Rattle.constriction_model.specs.Rows.{entry_of};
 ghost use Rattle.constriction_coders.specs.BitsBack.{IsCodedByLatent, IsEncodedByChosen, IsDecodedByChosen, IsChosenByState};
 ghost use Rattle.constriction_coders.specs.AnsCoder.{held_by};
-ghost use Rattle.constriction_coders.specs.Steps.{Content, MayBeHeld, IsOnTop, IsEncoded, IsDecoded};
+ghost use Rattle.constriction_coders.specs.Steps.{Content, content, MayBeHeld, IsOnTop, IsEncoded, IsDecoded};
 ghost use Rattle.constriction_model.specs.Precision.{IsPrecision};
 
 use crate::entry::{Entry, entry_of_symbol, symbol_and_entry};
@@ -159,6 +160,64 @@ pub fn encode<
     }
 }
 
+/// The symbol that a state has by the likelihood, which the latent symbol chooses, and its entry;
+/// and the entry that the latent symbol has by the posterior, which the symbol chooses.
+fn symbol_of_latent<
+    Symbol: Drop,
+    Latent,
+    PosteriorModel: EncoderModel<POSTERIOR_PRECISION, Symbol = Latent, Probability: ModelWord>
+        + Drop,
+    LikelihoodModel: DecoderModel<LIKELIHOOD_PRECISION, Symbol = Symbol, Probability: ModelWord>
+        + Drop,
+    Posterior: Fn(&Symbol) -> PosteriorModel,
+    Likelihood: Fn(&Latent) -> LikelihoodModel,
+    const POSTERIOR_PRECISION: usize,
+    const LIKELIHOOD_PRECISION: usize,
+>(
+    state: u64,
+    latent: &Latent,
+    posterior: Posterior,
+    likelihood: Likelihood,
+) -> Result<(Symbol, Entry, Entry), CoderError<DefaultEncoderFrontendError, AllocError>>
+    requires posterior { Posterior.IsAlwaysCallable posterior }
+    requires likelihood { Likelihood.IsAlwaysCallable likelihood }
+    ensures coded { IfOk result (λ t. (given : LikelihoodModel)
+        × FnReturnsAt Likelihood.Fn likelihood latent.now given
+        × AnswersQuantile LikelihoodModel.stands_for (λ n. n) (λ n. n) (LikelihoodModel.rows given)
+        (state % 2 ^ LIKELIHOOD_PRECISION) (t.0, t.1.0, t.1.1)) }
+    ensures coded_fits { IfOk result (λ _. LIKELIHOOD_PRECISION ≤ 32) }
+    ensures coded_some { IfOk result (λ t. 0 < t.1.1) }
+    ensures coded_within { IfOk result (λ t. t.1.0 + t.1.1 ≤ 2 ^ LIKELIHOOD_PRECISION) }
+    ensures from { IfOk result (λ t. t.1.0 ≤ state % 2 ^ LIKELIHOOD_PRECISION) }
+    ensures to { IfOk result (λ t. state % 2 ^ LIKELIHOOD_PRECISION < t.1.0 + t.1.1) }
+    ensures returned { IfOk result (λ t. (chosen : PosteriorModel)
+        × FnReturnsAt Posterior.Fn posterior t.0 chosen
+        × (entry_of PosteriorModel.symbol_eq (PosteriorModel.rows chosen) latent.now
+        ≡ Some (t.2.0, t.2.1))) }
+    ensures returned_precision { IfOk result (λ _. IsPrecision 32 POSTERIOR_PRECISION) }
+    ensures returned_some { IfOk result (λ t. 0 < t.2.1) }
+    ensures returned_within { IfOk result (λ t. t.2.0 + t.2.1 ≤ 2 ^ POSTERIOR_PRECISION) }
+    ensures impossible { (fault : _) → result ≡ Err (CoderError.Frontend fault) → (symbol : Symbol)
+        × IsChosenByState (FnReturnsAt Likelihood.Fn likelihood) LikelihoodModel.rows
+        LIKELIHOOD_PRECISION LikelihoodModel.stands_for latent.now symbol (content state [])
+        × (chosen : PosteriorModel) × FnReturnsAt Posterior.Fn posterior symbol chosen
+        × (entry_of PosteriorModel.symbol_eq (PosteriorModel.rows chosen) latent.now ≡ None) }
+{
+    let given = likelihood(latent);
+    let (symbol, coded) = match symbol_and_entry::<LikelihoodModel, LIKELIHOOD_PRECISION>(
+        &given,
+        quantile_of::<LIKELIHOOD_PRECISION>(state),
+    ) {
+        Ok(answer) => answer,
+        Err(error) => return Err(CoderError::Backend(error)),
+    };
+    let chosen = posterior(&symbol);
+    match entry_of_symbol::<PosteriorModel, POSTERIOR_PRECISION>(&chosen, latent) {
+        Some(returned) => Ok((symbol, coded, returned)),
+        None => Err(CoderError::Frontend(DefaultEncoderFrontendError::ImpossibleSymbol)),
+    }
+}
+
 /// Decodes a symbol that [`encode`] encoded by a latent one, and puts the latent one back on the
 /// coder.
 ///
@@ -217,24 +276,25 @@ pub fn decode<
         Err(error) => return Err(CoderError::Backend(error)),
     }
     take_from_vec::<PRIOR_PRECISION>(coder, paid);
-    let given = likelihood(&latent);
-    let (symbol, coded) = match symbol_and_entry::<LikelihoodModel, LIKELIHOOD_PRECISION>(
-        &given,
-        quantile_of::<LIKELIHOOD_PRECISION>(coder.state),
-    ) {
-        Ok(answer) => answer,
+    match symbol_of_latent::<
+        Symbol,
+        Latent,
+        PosteriorModel,
+        LikelihoodModel,
+        Posterior,
+        Likelihood,
+        POSTERIOR_PRECISION,
+        LIKELIHOOD_PRECISION,
+    >(coder.state, &latent, posterior, likelihood)
+    {
+        Ok((symbol, coded, returned)) => {
+            take_from_vec::<LIKELIHOOD_PRECISION>(coder, coded);
+            put_reserved::<POSTERIOR_PRECISION>(coder, returned);
+            Ok(symbol)
+        }
         Err(error) => {
             put_reserved::<PRIOR_PRECISION>(coder, paid);
-            return Err(CoderError::Backend(error));
+            Err(error)
         }
-    };
-    let chosen = posterior(&symbol);
-    let Some(returned) = entry_of_symbol::<PosteriorModel, POSTERIOR_PRECISION>(&chosen, &latent)
-    else {
-        put_reserved::<PRIOR_PRECISION>(coder, paid);
-        return Err(CoderError::Frontend(DefaultEncoderFrontendError::ImpossibleSymbol));
-    };
-    take_from_vec::<LIKELIHOOD_PRECISION>(coder, coded);
-    put_reserved::<POSTERIOR_PRECISION>(coder, returned);
-    Ok(symbol)
+    }
 }
