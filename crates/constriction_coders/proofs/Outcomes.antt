@@ -1,4 +1,4 @@
--- A success is no error, the error of a backend is none of a frontend, and errors are equal whatever a success would be.
+-- A success is no error, the error of a backend is none of a frontend, and equal results have equal errors.
 use Rattle.std.proofs.Common.{◌≡◌, Ok, Err}
 use Rattle.std.specs.Prelude.{Result}
 use Rattle.constriction_words.specs.declared.CoderError.{CoderError}
@@ -13,6 +13,6 @@ pub no-fault : {A F E : Type 0} (r : Result A (CoderError F E)) (error : E) (fau
     → r ≡ Err (Frontend fault) → ⊥
 no-fault r error fault of_backend of_frontend = cc
 
--- two errors that are equal beside one success are equal beside another
-pub same-error : {A B E : Type 0} (e f : E) → ◌≡◌ {A = Result A E} (Err e) (Err f) → ◌≡◌ {A = Result B E} (Err e) (Err f)
-same-error e f is = cc
+-- equal results have equal errors
+pub equal-errors : {A E : Type 0} (e f : E) → ◌≡◌ {A = Result A E} (Err e) (Err f) → e ≡ f
+equal-errors e f is = cc

@@ -1,9 +1,21 @@
-use Rattle.std.proofs.Common.{refl, subst}
+use Rattle.std.proofs.Common.{◌∷◌, refl, subst, rules}
+use Rattle.std.proofs.lemmas.List.Elements.{Contains-append_right}
 use Rattle.constriction_model.specs.Coding.{InTurn}
 use Rattle.constriction_model.specs.Rows.{entry_of}
 use Rattle.constriction_coders.specs.Spans.{Span, IsNarrowed}
-use Rattle.constriction_coders.proofs.Outcomes.{no-error, no-fault}
+use Rattle.constriction_coders.proofs.Outcomes.{no-error, no-fault, equal-errors}
 use Rattle.constriction_coders.proofs.laws.queue.message_of.Goals as goal
+
+pub returns-in-Err : goal.returns-in-Err
+returns-in-Err g c = record {
+  ok = tt;
+  impossible = λ is.
+      let stops = c.in-Err.ensures.err in (
+        stops.1,
+        rw stops.3 (Contains-append_right stops.0 (stops.1 ∷ stops.2) stops.1 (0, search rules, refl)),
+        stops.4.impossible _ (equal-errors _ _ is),
+      );
+}
 
 pub returns-in-Ok-into_compressed : goal.returns-in-Ok-into_compressed
 returns-in-Ok-into_compressed g c = record {

@@ -1,8 +1,8 @@
-use Rattle.std.proofs.Common.{refl, subst, List, ℕ, arith}
+use Rattle.std.proofs.Common.{refl, ap, subst, List, ℕ, Err, arith}
 use Rattle.constriction_coders.specs.AnsCoder.{held_by}
 use Rattle.constriction_coders.specs.Steps.{content, IsOnTop}
 use Rattle.constriction_coders.proofs.Exchanging.{undone}
-use Rattle.constriction_coders.proofs.Outcomes.{same-error}
+use Rattle.constriction_coders.proofs.Outcomes.{equal-errors}
 use Rattle.constriction_coders.proofs.Steps.{decoded}
 use Rattle.constriction_coders.proofs.stack.bits_back.decode.Goals as goal
 
@@ -45,7 +45,7 @@ returns-clause-impossible g c = λ fault is.
     let taken = subst (λ (ws : List ℕ).
     IsOnTop g.row.PRIOR_PRECISION c.in-Ok.answer.1.0 c.in-Ok.answer.1.1 (content c.args.coder.now.state ws)
     (held_by c.take_from_vec.new.coder)) c.reserve.ensures.items c.take_from_vec.ensures.under in
-    let other = c.in-Err-symbol_of_latent.ensures.impossible fault (same-error _ _ is) in (
+    let other = c.in-Err-symbol_of_latent.ensures.impossible fault (ap Err (equal-errors _ _ is)) in (
       c.in-Ok.answer.0,
       held_by c.take_from_vec.new.coder,
       decoded g.row.PRIOR_PRECISION c.in-Ok.answer.1.0 c.in-Ok.answer.1.1 g.Prior.DecoderModel.stands_for
