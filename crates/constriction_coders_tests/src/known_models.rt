@@ -1,5 +1,5 @@
 //! What contracts tell callers that make models of plain lists, and callers that encode numbers
-//! below `support_size`. No caller here has a written answer.
+//! below `support_size`. Only `of_letters` has a written answer, because its search took long.
 
 ghost use Rattle.std.specs.Prelude.{◌≡◌, ◌<◌, [], ◌∷◌, Err, IfOk, IfSome, length, nat_eq};
 ghost use Rattle.constriction.specs.Acceptance.{AreAccepted, IsAccepted};
