@@ -17,7 +17,7 @@ use constriction_coders::stack::AnsCoder;
 use std::alloc::{AllocError, Global};
 use std::process::Abort;
 
-mod known_models;
+pub mod known_models;
 mod other_symbols;
 
 pub type Letters = ContiguousCategoricalEntropyModel<u32, Vec<u32>, 6>;
@@ -146,7 +146,7 @@ fn letters_come_back_from_a_stack(rt: HostRuntime) {
 }
 
 /// A caller knows from the contract that the symbols of a `Vec` are learned and encoded.
-fn on_a_stack<P, const PRECISION: usize>(
+pub fn on_a_stack<P, const PRECISION: usize>(
     alloc: Global,
     predictor: &mut P,
     symbols: Vec<P::Symbol>,
@@ -164,21 +164,6 @@ where
         Ok(()) => Some(()),
         Err(_) => None,
     }
-}
-
-#[test]
-fn letters_of_a_vec_are_learned(rt: HostRuntime) {
-    let alloc = rt.alloc();
-    let this = letters(&rt, alloc, [1, 2, 61]);
-    let mut encoding = ByTurns {
-        this: &this,
-        other: &this,
-        room: 9,
-    };
-    let symbols = SYMBOLS.to_vec(alloc).expect(&rt, "memory");
-    let mut coder = AnsCoder::new(alloc);
-    let encoded = on_a_stack(alloc, &mut encoding, symbols, &mut coder);
-    same(&rt, (encoded, encoding.room), (Some(()), 2));
 }
 
 #[test]

@@ -8,7 +8,6 @@ ghost use Rattle.constriction_adaptive.specs.Contexts.{even_weights, untouched};
 ghost use Rattle.constriction_adaptive.specs.Mixing.{error_of, mixed, squash, strength, weights_after};
 ghost use Rattle.constriction_adaptive.specs.lemmas.Bit.{next-same};
 
-use crate::checks::{holds, same};
 use constriction_adaptive::bytes::bytes_come_back;
 use constriction_adaptive::mixing::{adjust, mix, squash, strength};
 use constriction_adaptive::{AdaptiveBit, Bit, ByContext, ByMixing, Context, OrderOne, Predictor};
@@ -80,7 +79,7 @@ pub fn by_all_three(alloc: Global) -> Result<AllThree, AllocError>
 }
 
 /// The bytes that come back from a message.
-fn bytes_back(alloc: Global, bytes: &[u8]) -> Result<Vec<u8>, AllocError>
+pub fn bytes_back(alloc: Global, bytes: &[u8]) -> Result<Vec<u8>, AllocError>
     ensures { IfOk result (λ again. again.items ≡ bytes.now) }
 {
     let mut encoding = by_all_three(alloc)?;
@@ -92,16 +91,8 @@ pub const TEXT: &[u8] =
     b"Row, row, row your boat, gently down the stream; merrily, merrily, merrily, merrily, life is but a dream.\n\
 Row, row, row your boat, gently down the stream; if you see a crocodile, do not forget to scream.\n";
 
-#[test]
-fn bytes_come_back_by_a_mixer_of_a_callers_own(rt: HostRuntime) {
-    match bytes_back(rt.alloc(), TEXT) {
-        Ok(again) => holds(&rt, &again, TEXT),
-        Err(_) => panic!(rt; "memory was refused"),
-    }
-}
-
 /// The weight of 0 by two others, and what each of them counts after a bit, by numbers alone.
-fn mixed_by_hand(counts: &mut [u32], zeros: [u16; 2], bit: bool) -> u16
+pub fn mixed_by_hand(counts: &mut [u32], zeros: [u16; 2], bit: bool) -> u16
     requires { length counts.old ≡ 2 }
     ensures mixed { result ≡ squash (mixed counts.old (map strength zeros)) }
     ensures learned { counts.new
@@ -111,18 +102,4 @@ fn mixed_by_hand(counts: &mut [u32], zeros: [u16; 2], bit: bool) -> u16
     let zero = squash(mix(counts, &strengths));
     adjust(counts, &strengths, zero, bit);
     zero
-}
-
-#[test]
-fn two_weights_are_mixed_by_numbers_alone(rt: HostRuntime) {
-    let mut counts = [65_536, 65_536];
-    same(
-        &rt,
-        mixed_by_hand(&mut counts, [60_000, 30_000], false),
-        59_510,
-    );
-    same(&rt, counts, [65_556, 65_534]);
-    let mut counts = [65_536, 65_536];
-    same(&rt, mixed_by_hand(&mut counts, [0, 65_535], true), 32_768);
-    same(&rt, counts, [65_952, 65_121]);
 }

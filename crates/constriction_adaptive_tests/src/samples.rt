@@ -10,7 +10,6 @@ ghost use Rattle.constriction_adaptive.specs.Pair.{equal_on_sides, pair_state};
 ghost use Rattle.constriction_adaptive.specs.Predicted.{predicted_entry};
 ghost use Rattle.constriction_coders.specs.Places.{IsMessageFrom};
 
-use crate::checks::{holds, same};
 use constriction::CoderError;
 use constriction::stream::model::ModelError;
 use constriction_adaptive::queue::{decode_message_of, encode_message};
@@ -21,7 +20,6 @@ use constriction_adaptive::{
 use constriction_coders::queue::DecoderFrontendError;
 use either::Either;
 use std::alloc::{AllocError, Global};
-use std::process::Abort;
 
 pub type Classes = ByContext<AdaptiveCategorical<5, 16>, LastSymbols, 16>;
 
@@ -85,7 +83,7 @@ fn class(number: usize) -> usize
 }
 
 /// The classes of samples, with their bits.
-fn symbols(alloc: Global, samples: &[u16]) -> Result<Vec<Symbol>, AllocError> {
+pub fn symbols(alloc: Global, samples: &[u16]) -> Result<Vec<Symbol>, AllocError> {
     let mut symbols = Vec::new(alloc);
     let (mut last, mut before) = (0, 0);
     for now in samples {
@@ -100,7 +98,7 @@ fn symbols(alloc: Global, samples: &[u16]) -> Result<Vec<Symbol>, AllocError> {
 }
 
 /// The samples of these symbols.
-fn samples(alloc: Global, symbols: &[Symbol]) -> Result<Vec<u16>, AllocError> {
+pub fn samples(alloc: Global, symbols: &[Symbol]) -> Result<Vec<u16>, AllocError> {
     let mut samples = Vec::new(alloc);
     let (mut last, mut before, mut class) = (0, 0, 0);
     for symbol in symbols {
@@ -119,7 +117,7 @@ fn samples(alloc: Global, symbols: &[Symbol]) -> Result<Vec<u16>, AllocError> {
 }
 
 /// The words of symbols.
-fn encoded(
+pub fn encoded(
     alloc: Global,
     symbols: &[Symbol],
 ) -> Result<Vec<u32>, CoderError<EncoderFrontendError, AllocError>>
@@ -137,7 +135,11 @@ fn encoded(
 }
 
 /// The symbols of words, which may have others after them.
-fn decoded(alloc: Global, count: usize, words: &[u32]) -> Result<Vec<Symbol>, DecoderFrontendError>
+pub fn decoded(
+    alloc: Global,
+    count: usize,
+    words: &[u32],
+) -> Result<Vec<Symbol>, DecoderFrontendError>
     ensures { IfOk result (λ answers. (symbols : List (Either ℕ ℕ)) (message more : List ℕ)
         → length symbols ≡ count → IsMessageFrom
         (predicted_entry ⟦<Samples as Predictor<16>>⟧.rows (equal_on_sides nat_eq nat_eq))
@@ -151,52 +153,4 @@ fn decoded(alloc: Global, count: usize, words: &[u32]) -> Result<Vec<Symbol>, De
         Ok(mut predictor) => decode_message_of(alloc, &mut predictor, count, words),
         Err(_) => Err(DecoderFrontendError::OutOfMemory),
     }
-}
-
-/// A wave of 3,000 samples with some noise.
-fn wave(rt: &impl Abort, alloc: Global) -> Vec<u16> {
-    let mut samples = Vec::new(alloc);
-    let mut noise = 1u32;
-    for time in 0..3000u32 {
-        let within = time % 200;
-        let height = within * (200 - within);
-        let middle = if time % 400 < 200 {
-            32768 + height
-        } else {
-            32768 - height
-        };
-        noise = noise.wrapping_mul(1_664_525).wrapping_add(1_013_904_223);
-        samples
-            .push((middle + noise / 268_435_456) as u16)
-            .expect(rt, "memory");
-    }
-    samples
-}
-
-#[test]
-fn samples_of_a_wave_come_back_from_few_words(rt: HostRuntime) {
-    let alloc = rt.alloc();
-    let wave = wave(&rt, alloc);
-    let of_wave = symbols(alloc, &wave).expect(&rt, "memory");
-    let Ok(words) = encoded(alloc, &of_wave) else {
-        panic!(rt; "the samples were not encoded");
-    };
-    // All of them are 1,500 words.
-    same(&rt, words.len() < 700, true);
-    let Ok(again) = decoded(alloc, of_wave.len(), &words) else {
-        panic!(rt; "the samples were not decoded");
-    };
-    let again = samples(alloc, &again).expect(&rt, "memory");
-    holds(&rt, &again, &wave);
-}
-
-/// Why a class and then another class are not encoded.
-fn refusal(alloc: Global) -> Option<CoderError<EncoderFrontendError, AllocError>> {
-    encoded(alloc, &[Either::Left(3), Either::Left(3)]).err()
-}
-
-#[test]
-fn a_symbol_of_the_other_side_is_refused(rt: HostRuntime) {
-    let impossible = CoderError::Frontend(EncoderFrontendError::ImpossibleSymbol);
-    same(&rt, refusal(rt.alloc()), Some(impossible));
 }
