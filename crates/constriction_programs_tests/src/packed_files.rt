@@ -78,23 +78,3 @@ pub fn front(bytes: &[u8], count: usize) -> &[u8] {
         bytes
     }
 }
-
-/// The exit status for what `unpack` answers to a file.
-pub fn unpacking_status(alloc: Global, file: &[u8]) -> u8 {
-    match unpacked(alloc, u64::MAX, file).0 {
-        Ok(()) => 0,
-        Err(error) => error.status(),
-    }
-}
-
-/// Asserts that a file is refused with the status 2 if any of its bits is flipped.
-pub fn are_refused_if_flipped(rt: &impl Abort, alloc: Global, file: &mut [u8]) {
-    for place in 0..file.len() {
-        let byte = file[place];
-        for bit in 0..8u32 {
-            file[place] = byte ^ (1 << bit);
-            same(rt, unpacking_status(alloc, file), 2);
-        }
-        file[place] = byte;
-    }
-}

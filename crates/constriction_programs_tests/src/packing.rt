@@ -8,7 +8,7 @@ use constriction_pack::laws::{
     block_comes_back, block_once, changed_byte_is_refused, file_comes_back, matches_are_bounded,
     nothing_follows, packed_once,
 };
-use constriction_pack::{Kind, Level, PackError, pack, pack_block, unpack, unpack_block};
+use constriction_pack::{Kind, Level, PackError, pack, unpack, unpack_block};
 use std::alloc::Global;
 use std::process::Abort;
 
@@ -227,16 +227,6 @@ fn a_text_is_the_shorter_the_more_a_level_tries(rt: HostRuntime) {
     let default = packed_length(&rt, rt.alloc(), Level::Default, &text);
     let best = packed_length(&rt, rt.alloc(), Level::Best, &text);
     same(&rt, best < default && default < fast, true);
-}
-
-#[test]
-fn one_byte_again_and_again_is_repeated(rt: HostRuntime) {
-    for level in [Level::Fast, Level::Default, Level::Best] {
-        let made = pack_block(rt.alloc(), level, &[7; 300]).expect(&rt, "memory");
-        let (kind, content) = made.expect(&rt, "a shorter content");
-        same(&rt, kind, Kind::Repeated);
-        holds(&rt, &content, b"\x2c\x01\0\0\x07");
-    }
 }
 
 /// They do nothing; their contracts are what a caller needs them for.

@@ -1,6 +1,6 @@
 //! Runs over readers and writers of a caller's own, that give or take one byte at a time and fail.
 
-use crate::checks::{holds, same};
+use crate::checks::same;
 use constriction_text::{RunFault, run};
 use std::alloc::Global;
 use std::io::{self, ErrorKind, Read, Write};
@@ -87,47 +87,6 @@ pub fn run_slowly(
     written: &mut Vec<u8>,
 ) -> Result<(), RunFault> {
     run(alloc, reader, written)
-}
-
-/// The reader is not asked again, though it would give the rest.
-#[test]
-fn a_reader_that_fails_leaves_nothing_written(rt: HostRuntime) {
-    let mut reader = SlowReader {
-        rest: b"a\nb",
-        turns: 2,
-        is_interrupted: false,
-    };
-    let mut written = Vec::new(rt.alloc());
-    let result = run_slowly(rt.alloc(), &mut reader, &mut written);
-    same(
-        &rt,
-        (result, written.is_empty(), reader.turns),
-        (Err(RunFault::Read), true, usize::MAX),
-    );
-}
-
-/// What a run over ten empty lines answers if the writer fails after `turns` bytes, and what was
-/// written.
-fn run_to_slow(alloc: Global, turns: usize) -> (Result<(), RunFault>, Vec<u8>) {
-    let mut reader = b"\n\n\n\n\n\n\n\n\n\n".as_slice();
-    let mut writer = SlowWriter {
-        taken: Vec::new(alloc),
-        turns,
-        is_interrupted: false,
-    };
-    let result = run(alloc, &mut reader, &mut writer);
-    (result, writer.taken)
-}
-
-/// The writer is not asked again, though it would take the rest.
-#[test]
-fn a_writer_that_fails_has_a_beginning(rt: HostRuntime) {
-    let (result, taken) = run_to_slow(rt.alloc(), 12);
-    same(&rt, result, Err(RunFault::Write));
-    holds(&rt, &taken, b"bad line\nbad");
-    let (result, taken) = run_to_slow(rt.alloc(), 90);
-    same(&rt, (result, taken.len()), (Ok(()), 90));
-    are_lines(&rt, &taken, b"bad line\n");
 }
 
 /// Asserts that each line of a text is this one.
