@@ -2,8 +2,7 @@
 //!
 //! Tests call these functions, because `assert_eq!` takes long to prove and a call takes no time.
 
-use std::alloc::Global;
-use std::fmt::{Debug, Display};
+use std::fmt::Debug;
 use std::process::Abort;
 
 /// Asserts that the two are equal, and shows both if they are not.
@@ -14,12 +13,4 @@ pub fn same<T: PartialEq + Debug + Drop>(rt: &impl Abort, found: T, expected: T)
 /// Asserts that a `Vec` holds these items.
 pub fn holds<T: PartialEq + Debug>(rt: &impl Abort, found: &Vec<T>, expected: &[T]) {
     same(rt, found.as_slice(), expected);
-}
-
-/// Asserts that the value is displayed as this text.
-pub fn prints<T: Display>(rt: &impl Abort, alloc: Global, value: &T, text: &str) {
-    let Ok(printed) = format!(in alloc; "{value}") else {
-        panic!(rt; "memory was refused");
-    };
-    same(rt, printed.as_str(), text);
 }

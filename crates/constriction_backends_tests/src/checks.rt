@@ -5,8 +5,7 @@
 use constriction_backends::{Cursor, SafeBuf};
 use constriction_words::Pos;
 use std::alloc::Global;
-use std::error::Error;
-use std::fmt::{Debug, Display};
+use std::fmt::Debug;
 use std::process::Abort;
 
 /// Asserts that the two are equal, and shows both if they are not.
@@ -17,17 +16,6 @@ pub fn same<T: PartialEq + Debug + Drop>(rt: &impl Abort, found: T, expected: T)
 /// Asserts that a `Vec` holds these words.
 pub fn holds(rt: &impl Abort, found: &Vec<u8>, expected: &[u8]) {
     same(rt, found.as_slice(), expected);
-}
-
-/// A clone. The test fails if memory is refused.
-pub fn clone_of<T: Clone>(rt: &impl Abort, value: &T) -> T {
-    value.clone().expect(rt, "memory was refused")
-}
-
-/// Asserts that the value is displayed as this text.
-pub fn prints<T: Display>(rt: &impl Abort, alloc: Global, value: &T, text: &str) {
-    let printed = format!(in alloc; "{value}").expect(rt, "memory was refused");
-    same(rt, printed.as_str(), text);
 }
 
 /// Asserts that `Debug` shows the value as this text.
@@ -51,6 +39,3 @@ pub fn is_at<Buf: SafeBuf<u8>, const N: usize>(
     same(rt, cursor.buf().words(), words.as_slice());
     same(rt, cursor.pos(), pos);
 }
-
-/// Compiles only if the type of the value is an `Error`.
-pub fn is_an_error<E: Error>(_error: &E) {}

@@ -4,7 +4,7 @@
 
 use constriction_test_support::contiguous::{WEIGHTS, Weighted, weighted};
 use std::alloc::Global;
-use std::fmt::{Debug, Display};
+use std::fmt::Debug;
 use std::process::Abort;
 
 /// Asserts that the two are equal, and shows both if they are not.
@@ -25,10 +25,4 @@ pub fn vec_of(rt: &impl Abort, alloc: Global, words: &[u8]) -> Vec<u8> {
 /// The model of the weights 3, 18, 1 and 42. The test fails if memory is refused.
 pub fn small(rt: &impl Abort, alloc: Global) -> Weighted<6> {
     weighted::<6>(alloc, &WEIGHTS, false).expect(rt, "accepted")
-}
-
-/// Asserts that the value is displayed as this text.
-pub fn prints<T: Display>(rt: &impl Abort, alloc: Global, value: &T, text: &str) {
-    let printed = format!(in alloc; "{value}").expect(rt, "memory");
-    same(rt, printed.as_str(), text);
 }
