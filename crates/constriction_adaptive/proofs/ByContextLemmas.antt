@@ -5,7 +5,7 @@ use Rattle.std.proofs.Common.{◌≡◌, ℕ, ◌<◌, List, length, map, get_or
 use Rattle.std.proofs.Math.Seq.{map-set_same}
 use Rattle.std.proofs.lemmas.List.{map-set}
 use Rattle.std.proofs.lemmas.Option.{slice_get-map, slice_get_read}
-use Rattle.constriction_adaptive.specs.ByContext.{learned_in, state_of, with_state}
+use Rattle.constriction_adaptive.specs.ByContext.{learned_in, context_state, with_state}
 
 module _ {P Context : Type 0} (xs : List P) (i : ℕ) (x : P) (at : x ≡ get_or xs i x) (number : Context → ℕ) (c : Context) (n : ℕ)
     (is : i ≡ number c) (many : n ≡ length xs) (below : i < n) where
@@ -25,10 +25,10 @@ module _ {P State : Type 0} (state : P → State) (xs : List P) (i : ℕ) (x y :
   -- by one that learned a symbol, and the context learned it
   pub states-learned : {Context Symbol : Type 0} (next : State → Symbol → State) (number : Context → ℕ) (after : Context → Symbol → Context)
       (c d : Context) (symbol : Symbol) (n : ℕ) → i ≡ number c → n ≡ length xs → i < n → state y ≡ next (state x) symbol → d ≡ after c symbol
-      → state_of (map state (set xs i y)) d ≡ learned_in next number after (state_of (map state xs) c) symbol
+      → context_state (map state (set xs i y)) d ≡ learned_in next number after (context_state (map state xs) c) symbol
   states-learned next number after c d symbol n is many below learned moved =
       let found = state-found xs i x at number c n is many below state in
-      ap (λ context. state_of (map state (set xs i y)) context) moved
-      ∙ ap (λ states. state_of states (after c symbol))
+      ap (λ context. context_state (map state (set xs i y)) context) moved
+      ∙ ap (λ states. context_state states (after c symbol))
       (map-set state xs i y ∙ ap (set (map state xs) i) learned ∙ ap (λ k. set (map state xs) k (next (state x) symbol)) is
       ∙ ap (λ f. with_state (map state xs) (number c) (option_map (λ s. next s symbol) f)) (sym found))

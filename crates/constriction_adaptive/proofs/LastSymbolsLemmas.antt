@@ -4,6 +4,7 @@ use Rattle.std.proofs.Common.{suc, ap, arith, sym, ◌∙◌}
 use Rattle.std.proofs.Math.Nat.{pow-le-pow_right, pow-succ', pow-zero}
 use Rattle.constriction_adaptive.specs.LastSymbols.{IsRecent, recent}
 
+-- a context in which nothing came
 pub none-kept : (symbols order older : ℕ) → 0 < symbols → 0 < order → symbols ^ order < 2 ^ 64 → older ≡ symbols ^ (order - 1)
     → IsRecent (recent symbols older 0)
 none-kept symbols order older some any few is =

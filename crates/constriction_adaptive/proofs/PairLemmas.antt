@@ -8,7 +8,7 @@ use Rattle.constriction_model.specs.Rows.{Row, IsRowOf, RowsTile, entry_of, rows
 use Rattle.constriction_model.specs.lemmas.Rows.{entry_of-cons}
 use Rattle.either.specs.declared.Either.{Either}
 use Rattle.either.specs.declared.Either.TheVariants.{Left, Right}
-use Rattle.constriction_adaptive.specs.ByContext.{ByContexts, learned_in, rows_in}
+use Rattle.constriction_adaptive.specs.ByContext.{ByContexts, learned_in, rows_by_context}
 use Rattle.constriction_adaptive.specs.Pair.{PairState, after_side, equal_on_sides, pair_state, rows_of_side, with_symbols, without_symbols}
 use Rattle.constriction_adaptive.specs.lemmas.Pair.{same-weights}
 
@@ -112,12 +112,12 @@ module _ {L R Context A B : Type 0} (left_rows : L → List (Row A)) (right_rows
   -- the rows where left symbols are next
   pub side-left : (s : PairState L R Context) → s.is_right ≡ false
       → rows_of_side left_rows right_rows number s ≡ with_symbols Left (left_rows s.left)
-  side-left s h = ap (λ b. if b then with_symbols Right (rows_in right_rows number s.right) else with_symbols Left (left_rows s.left)) h
+  side-left s h = ap (λ b. if b then with_symbols Right (rows_by_context right_rows number s.right) else with_symbols Left (left_rows s.left)) h
 
   -- the rows where right symbols are next
   pub side-right : (s : PairState L R Context) → s.is_right ≡ true
-      → rows_of_side left_rows right_rows number s ≡ with_symbols Right (rows_in right_rows number s.right)
-  side-right s h = ap (λ b. if b then with_symbols Right (rows_in right_rows number s.right) else with_symbols Left (left_rows s.left)) h
+      → rows_of_side left_rows right_rows number s ≡ with_symbols Right (rows_by_context right_rows number s.right)
+  side-right s h = ap (λ b. if b then with_symbols Right (rows_by_context right_rows number s.right) else with_symbols Left (left_rows s.left)) h
 
 -- a right symbol was learned
 pub right-learned : {L R Context A B : Type 0} (next_left : L → A → L) (next_right : R → B → R) (number : Context → ℕ)

@@ -9,6 +9,7 @@ use Rattle.constriction_coders.specs.Intervals.{IsWidenedByRead, IsStart, Held}
 use Rattle.constriction_adaptive.specs.Numbers.{TakesWord}
 use Rattle.constriction_adaptive.specs.Predicted.{IsReadIn}
 
+-- an interval, and the words that are left
 abbrev pub holding : Interval → List ℕ → Held (List ℕ)
 holding i words = record { held = i; source = words }
 

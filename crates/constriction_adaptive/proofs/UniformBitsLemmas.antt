@@ -40,6 +40,7 @@ module _ (precision bits : ℕ) (within : bits ≤ precision) where
       let most : (s + 1) * weight ≤ 2 ^ bits * weight = mul-le (s + 1) weight (2 ^ bits) weight (omega arith) (omega arith) in
       omega (arith, most, all)
 
+  -- the part of some bits lies within the quantiles
   pub bits-lie : (s v w : ℕ) → s < 2 ^ bits → v ≡ weight → w ≡ v → (0 < w) × (s * v + w ≤ 2 ^ precision)
   bits-lie s v w h v_is w_is =
       (omega (arith, v_is, w_is, pow_pos (precision - bits)), omega (arith, v_is, w_is, ap (λ n. s * n) v_is, bits-fit s h))

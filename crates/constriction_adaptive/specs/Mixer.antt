@@ -16,6 +16,7 @@ pub record MixerState : Type 0 where
   pub weights : List (List ℕ)
   pub past : PastState
 
+-- the same, from its parts
 abbrev pub mixer_state : (contexts : List ℕ) (groups : ℕ) (slots : List ℕ) (weights : List (List ℕ)) (past : PastState) → MixerState
 mixer_state contexts groups slots weights past = record { contexts = contexts; groups = groups; slots = slots; weights = weights; past = past }
 
@@ -23,6 +24,7 @@ mixer_state contexts groups slots weights past = record { contexts = contexts; g
 abbrev pub places_in : (groups : ℕ) → PastState → (contexts : List ℕ) → List ℕ
 places_in groups past contexts = map (place groups past.history past.half (followed past)) contexts
 
+-- those of the contexts of a mixer
 abbrev pub places_of : MixerState → List ℕ
 places_of m = places_in m.groups m.past m.contexts
 
@@ -30,6 +32,7 @@ places_of m = places_in m.groups m.past m.contexts
 abbrev pub strengths_of : MixerState → List ℕ
 strengths_of m = map (λ p. strength (slice_index m.slots (p + m.past.path))) (places_of m)
 
+-- how much each context counts now
 abbrev pub row : MixerState → List ℕ
 row m = slice_index_or m.weights m.past.told []
 

@@ -27,6 +27,7 @@ squash strength = if nat_lt strength 2048 then tail (2048 - strength) else 65536
 abbrev pub pace : ℕ → ℕ
 pace slot = if nat_lt slot 32768 then 8 else (if nat_lt 32768 slot then 8 else 2)
 
+-- the slot after a bit
 abbrev pub slot_after : Bool → ℕ → ℕ
 slot_after false slot = slot + (65535 - slot) / pace slot
 slot_after true slot = slot - slot / pace slot
@@ -37,20 +38,20 @@ weight_after false error strength weight = min 262144 (weight + strength * error
 weight_after true error strength weight = min 262144 (weight + error / 64 - strength * error / 131072)
 
 -- one of `count` places for a number below 2 ^ 64
-abbrev pub spread : (count key : ℕ) → ℕ
-spread count key = key * 11400714819323198485 % 2 ^ 64 / 2 ^ 32 * count / 2 ^ 32
+abbrev pub scattered : (count key : ℕ) → ℕ
+scattered count key = key * 11400714819323198485 % 2 ^ 64 / 2 ^ 32 * count / 2 ^ 32
 
 -- the last bytes of what came, at the top of 64 bits
-abbrev pub recent : (bytes history : ℕ) → ℕ
-recent bytes history = history * 2 ^ (64 - 8 * bytes) % 2 ^ 64
+abbrev pub last_bytes : (bytes history : ℕ) → ℕ
+last_bytes bytes history = history * 2 ^ (64 - 8 * bytes) % 2 ^ 64
 
 -- what a context sees: so many of the last bytes, or for none what was followed
 abbrev pub seen : (history followed bytes : ℕ) → ℕ
-seen history followed bytes = if nat_lt 0 bytes then recent bytes history else followed * 256
+seen history followed bytes = if nat_lt 0 bytes then last_bytes bytes history else followed * 256
 
 -- the first of the 16 slots of a context for the bits of half a byte
 abbrev pub place : (groups history half followed bytes : ℕ) → ℕ
-place groups history half followed bytes = 16 * spread groups ((seen history followed bytes + (half * 8 + bytes)) % 2 ^ 64)
+place groups history half followed bytes = 16 * scattered groups ((seen history followed bytes + (half * 8 + bytes)) % 2 ^ 64)
 
 -- the slot at each place moves
 abbrev pub slots_moved : Bool → (path : ℕ) (places slots : List ℕ) → List ℕ

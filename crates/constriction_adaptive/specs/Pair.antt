@@ -3,7 +3,7 @@ use Rattle.std.specs.Prelude.{ℕ, Bool, true, false, List, map, if◌then◌els
 use Rattle.constriction_model.specs.Rows.{Row}
 use Rattle.either.specs.declared.Either.{Either}
 use Rattle.either.specs.declared.Either.TheVariants.{Left, Right}
-use Rattle.constriction_adaptive.specs.ByContext.{ByContexts, learned_in, rows_in, state_of}
+use Rattle.constriction_adaptive.specs.ByContext.{ByContexts, learned_in, rows_by_context, context_state}
 
 -- what the left predictor knows, what the right ones and their context do, and whether a right symbol is next
 pub record PairState (L R Context : Type 0) : Type 0 where
@@ -34,12 +34,12 @@ module _ {L R Context A B : Type 0} where
   -- the rows of the predictor that is next, whose symbols are of its side
   abbrev pub rows_of_side : (L → List (Row A)) → (R → List (Row B)) → (Context → ℕ) → PairState L R Context → List (Row (Either A B))
   rows_of_side left_rows right_rows number s =
-      if s.is_right then with_symbols Right (rows_in right_rows number s.right) else with_symbols Left (left_rows s.left)
+      if s.is_right then with_symbols Right (rows_by_context right_rows number s.right) else with_symbols Left (left_rows s.left)
 
   -- The predictor that is next learns its symbol, and the context a left one. A symbol of the other side has no entry, and changes nothing.
   abbrev pub after_side : (L → A → L) → (R → B → R) → (Context → ℕ) → (Context → A → Context) → PairState L R Context → Either A B
       → PairState L R Context
   after_side next_left next_right number after s (Left a) =
-      if s.is_right then s else pair_state (next_left s.left a) (state_of s.right.predictors (after s.right.context a)) true
+      if s.is_right then s else pair_state (next_left s.left a) (context_state s.right.predictors (after s.right.context a)) true
   after_side next_left next_right number after s (Right b) =
       if s.is_right then pair_state s.left (learned_in next_right number (λ context _. context) s.right b) false else s

@@ -1,7 +1,7 @@
 -- The bytes before a bit, and the byte that they foretell.
 use Rattle.std.specs.Prelude.{◌+◌, ◌*◌, ◌%◌, ◌^◌, ℕ, List, length, Bool, true, false, if◌then◌else◌, nat_eq, nat_lt, min, replicate, slice_index, slice_set}
 use Rattle.constriction_adaptive.specs.Bit.{bit_number}
-use Rattle.constriction_adaptive.specs.Mixing.{recent, spread}
+use Rattle.constriction_adaptive.specs.Mixing.{last_bytes, scattered}
 
 pub record PastState : Type 0 where
   -- by a hash of the last bytes, the byte that came after them last, and how many bytes are hashed
@@ -44,7 +44,7 @@ after_byte byte past = record {
   history = with_byte byte past.history;
   half = 1;
   path = 1;
-  at = spread (length past.followers) (recent past.reach (with_byte byte past.history));
+  at = scattered (length past.followers) (last_bytes past.reach (with_byte byte past.history));
   told = told_after (nat_eq (foretold past) byte) past.told;
 }
 
@@ -53,6 +53,7 @@ abbrev pub after_half : ℕ → PastState → PastState
 after_half bits past =
     if nat_lt past.half 16 then record past { half = bits; path = 1 } else after_byte (past.half % 16 * 16 + bits % 16) past
 
+-- what is known after one bit more
 abbrev pub past_after : Bool → PastState → PastState
 past_after bit past =
     if nat_lt (longer bit past) 16 then record past { path = longer bit past } else after_half (longer bit past) past
@@ -69,6 +70,6 @@ past_begun followers reach = record {
   history = 0;
   half = 1;
   path = 1;
-  at = spread followers (recent reach 0);
+  at = scattered followers (last_bytes reach 0);
   told = 0;
 }

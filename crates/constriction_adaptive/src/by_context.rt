@@ -2,7 +2,7 @@
 
 ghost use Rattle.std.specs.Prelude.{◌≡◌, ◌<◌, ℕ, IfOk, IfSome, length, map, slice_get};
 ghost use Rattle.constriction_model.specs.Coding.{StandsForEqual};
-ghost use Rattle.constriction_adaptive.specs.ByContext.{ByContexts, learned_in, rows_in, state_of};
+ghost use Rattle.constriction_adaptive.specs.ByContext.{ByContexts, learned_in, rows_by_context, context_state};
 ghost use Rattle.constriction_adaptive.specs.lemmas.ByContext.{learned-same};
 
 use crate::predictor::{Predictor, Snapshot};
@@ -70,7 +70,7 @@ where
     pub fn new(predictors: Vec<P>, context: C) -> Self
         requires { length predictors.items ≡ C.contexts context }
         ensures { ⟦<ByContext<P, C, PRECISION> as Predictor<PRECISION>>⟧.state result
-            ≡ state_of (map P.state predictors.items) (C.state context) }
+            ≡ context_state (map P.state predictors.items) (C.state context) }
     {
         ByContext {
             predictors,
@@ -90,9 +90,9 @@ where
 
     ghost State = { ByContexts P.State C.State };
 
-    ghost state = { λ p. state_of (map P.state p.predictors.items) (C.state p.context) };
+    ghost state = { λ p. context_state (map P.state p.predictors.items) (C.state p.context) };
 
-    ghost rows = { rows_in P.rows C.number };
+    ghost rows = { rows_by_context P.rows C.number };
 
     ghost next = { learned_in P.next C.number C.next };
 

@@ -7,7 +7,7 @@ ghost use Rattle.constriction_model.specs.Rows.{RowsTile};
 ghost use Rattle.constriction_model.specs.lemmas.Coding.{rows-within};
 ghost use Rattle.either.specs.Either.{MatchEither, SameSide};
 ghost use Rattle.either.specs.declared.Either.{Either};
-ghost use Rattle.constriction_adaptive.specs.ByContext.{state_of};
+ghost use Rattle.constriction_adaptive.specs.ByContext.{context_state};
 ghost use Rattle.constriction_adaptive.specs.Pair.{PairState, pair_state, after_side, equal_on_sides, rows_of_side, without_symbols};
 ghost use Rattle.constriction_adaptive.specs.lemmas.Pair.{after-side-same, sides-equivalence, tile-without};
 
@@ -42,7 +42,7 @@ where
     ghost precise: { IsPrecision 32 PRECISION },
     // A ghost field may not say that symbols of any type are equal, so it leaves them out.
     ghost tile: { RowsTile 32 PRECISION (without_symbols (rows_of_side A.rows B.rows C.number
-        (pair_state (A.state left) (state_of (map B.state rights.items) (C.state context))
+        (pair_state (A.state left) (context_state (map B.state rights.items) (C.state context))
         is_right))) },
 }
 
@@ -57,7 +57,7 @@ where
     pub fn new(left: A, rights: Vec<B>, context: C) -> Self
         requires { length rights.items ≡ C.contexts context }
         ensures { ⟦<Pair<A, B, C, PRECISION> as Predictor<PRECISION>>⟧.state result ≡ pair_state
-            (A.state left) (state_of (map B.state rights.items) (C.state context)) false }
+            (A.state left) (context_state (map B.state rights.items) (C.state context)) false }
     {
         rows_tile(&left);
         Pair {
@@ -80,7 +80,7 @@ where
     type Probability = u32;
 
     ghost rows = { λ m. rows_of_side A.rows B.rows C.number (pair_state (A.state m.left)
-        (state_of (map B.state m.rights.items) (C.state m.context)) m.is_right) };
+        (context_state (map B.state m.rights.items) (C.state m.context)) m.is_right) };
 
     ghost precision_law = { λ m. m.precise };
 }
@@ -163,7 +163,7 @@ where
     ghost State = { PairState A.State B.State C.State };
 
     ghost state = { λ p. pair_state (A.state p.left)
-        (state_of (map B.state p.rights.items) (C.state p.context)) p.is_right };
+        (context_state (map B.state p.rights.items) (C.state p.context)) p.is_right };
 
     ghost rows = { rows_of_side A.rows B.rows C.number };
 

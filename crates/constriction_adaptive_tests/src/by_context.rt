@@ -1,7 +1,7 @@
 //! What programs that code numbers by a predictor for each context learn from contracts alone.
 
 ghost use Rattle.std.specs.Prelude.{◌≡◌, ◌++◌, ◌^◌, ◌<◌, All, Bool, IfOk, List, if◌then◌else◌, length, nat_eq, true, ℕ};
-ghost use Rattle.constriction_adaptive.specs.ByContext.{state_of};
+ghost use Rattle.constriction_adaptive.specs.ByContext.{context_state};
 ghost use Rattle.constriction_adaptive.specs.Categorical.{even_many};
 ghost use Rattle.constriction_adaptive.specs.LastSymbols.{none_recent};
 ghost use Rattle.constriction_adaptive.specs.Predicted.{predicted_entry};
@@ -24,13 +24,11 @@ type Numbers = ByContext<AdaptiveCategorical<5, 16>, LastSymbols, 16>;
 /// Predicts numbers below 200 by the number before.
 fn by_the_last(alloc: Global) -> Result<Numbers, ModelError>
     ensures { IfOk result (λ made. ⟦<Numbers as Predictor<16>>⟧.state made
-        ≡ state_of (even_many 200 16 200) (none_recent 200 1)) }
+        ≡ context_state (even_many 200 16 200) (none_recent 200 1)) }
 {
     let context = LastSymbols::new(200, 1);
-    match AdaptiveCategorical::new_many(alloc, 200, context.contexts()) {
-        Ok(predictors) => Ok(ByContext::new(predictors, context)),
-        Err(error) => Err(error),
-    }
+    let predictors = AdaptiveCategorical::new_many(alloc, 200, context.contexts())?;
+    Ok(ByContext::new(predictors, context))
 }
 
 /// The words of numbers below 200.
@@ -40,7 +38,7 @@ fn encoded_numbers(
 ) -> Result<Vec<u32>, CoderError<EncoderFrontendError, AllocError>>
     ensures { IfOk result (λ words. IsMessageFrom
         (predicted_entry ⟦<Numbers as Predictor<16>>⟧.rows nat_eq) ⟦<Numbers as Predictor<16>>⟧.next
-        16 (state_of (even_many 200 16 200) (none_recent 200 1)) numbers.now words.items) }
+        16 (context_state (even_many 200 16 200) (none_recent 200 1)) numbers.now words.items) }
 {
     match by_the_last(alloc) {
         Ok(mut predictor) => encode_message(alloc, &mut predictor, numbers),
@@ -56,8 +54,9 @@ fn decoded_numbers(
 ) -> Result<Vec<usize>, DecoderFrontendError>
     ensures { IfOk result (λ answers. (numbers message more : List ℕ) → length numbers ≡ count
         → IsMessageFrom (predicted_entry ⟦<Numbers as Predictor<16>>⟧.rows nat_eq)
-        ⟦<Numbers as Predictor<16>>⟧.next 16 (state_of (even_many 200 16 200) (none_recent 200 1))
-        numbers message → All (λ w. w < 2 ^ 32) more
+        ⟦<Numbers as Predictor<16>>⟧.next 16
+        (context_state (even_many 200 16 200) (none_recent 200 1)) numbers message
+        → All (λ w. w < 2 ^ 32) more
         → words.now ≡ message ++ more → answers.items ≡ numbers) }
 {
     match by_the_last(alloc) {
@@ -83,13 +82,11 @@ fn numbers_come_back_by_the_number_before(rt: HostRuntime) {
 /// Predicts numbers below 4 by the two numbers before.
 fn by_the_last_two(alloc: Global) -> Result<Numbers, ModelError>
     ensures { IfOk result (λ made. ⟦<Numbers as Predictor<16>>⟧.state made
-        ≡ state_of (even_many 16 16 4) (none_recent 4 2)) }
+        ≡ context_state (even_many 16 16 4) (none_recent 4 2)) }
 {
     let context = LastSymbols::new(4, 2);
-    match AdaptiveCategorical::new_many(alloc, 4, context.contexts()) {
-        Ok(predictors) => Ok(ByContext::new(predictors, context)),
-        Err(error) => Err(error),
-    }
+    let predictors = AdaptiveCategorical::new_many(alloc, 4, context.contexts())?;
+    Ok(ByContext::new(predictors, context))
 }
 
 /// A caller's own context, of whether the last number is 0.
@@ -125,12 +122,10 @@ type AfterZeros = ByContext<AdaptiveCategorical<5, 16>, Zeros, 16>;
 /// Predicts numbers below 4 by whether the number before is 0.
 fn by_zeros(alloc: Global) -> Result<AfterZeros, ModelError>
     ensures { IfOk result (λ made. ⟦<AfterZeros as Predictor<16>>⟧.state made
-        ≡ state_of (even_many 2 16 4) true) }
+        ≡ context_state (even_many 2 16 4) true) }
 {
-    match AdaptiveCategorical::new_many(alloc, 4, 2) {
-        Ok(predictors) => Ok(ByContext::new(predictors, Zeros { was_zero: true })),
-        Err(error) => Err(error),
-    }
+    let predictors = AdaptiveCategorical::new_many(alloc, 4, 2)?;
+    Ok(ByContext::new(predictors, Zeros { was_zero: true }))
 }
 
 /// The numbers that come back from a message by contexts of a caller's own.

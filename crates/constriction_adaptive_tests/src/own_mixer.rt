@@ -2,7 +2,7 @@
 
 ghost use Rattle.std.specs.Prelude.{◌≡◌, [], ◌∷◌, ◌+◌, ◌*◌, ◌%◌, ◌<◌, ◌≤◌, ◌^◌, ℕ, IfOk, length, map};
 ghost use Rattle.constriction_adaptive.specs.Bit.{bit_number};
-ghost use Rattle.constriction_adaptive.specs.ByContext.{state_of};
+ghost use Rattle.constriction_adaptive.specs.ByContext.{context_state};
 ghost use Rattle.constriction_adaptive.specs.ByMixing.{mixture_of};
 ghost use Rattle.constriction_adaptive.specs.Contexts.{even_weights, untouched};
 ghost use Rattle.constriction_adaptive.specs.Mixing.{error_of, mixed, squash, strength, weights_after};
@@ -51,7 +51,7 @@ pub fn by_last_bits(alloc: Global, contexts: usize) -> Result<ByLastBits, AllocE
     requires some { 0 < contexts }
     requires few { contexts ≤ 2 ^ 32 }
     ensures { IfOk result (λ made. ⟦<ByLastBits as Predictor<16>>⟧.state made
-        ≡ state_of (even_weights contexts) (contexts, 0)) }
+        ≡ context_state (even_weights contexts) (contexts, 0)) }
 {
     let recent = LastBits {
         contexts,
@@ -65,9 +65,9 @@ pub type AllThree = ByMixing<(ByLastBits, (ByLastBits, (OrderOne, ()))), 3>;
 /// Predicts the bits of bytes by the last 12 and the last 20 bits, and by the byte before.
 pub fn by_all_three(alloc: Global) -> Result<AllThree, AllocError>
     ensures { IfOk result (λ made. ⟦<AllThree as Predictor<16>>⟧.state made ≡ mixture_of (
-      state_of (even_weights 4096) (4096, 0),
+      context_state (even_weights 4096) (4096, 0),
       (
-        state_of (even_weights 1048576) (1048576, 0),
+        context_state (even_weights 1048576) (1048576, 0),
         (untouched 65536, tt),
       ),
     ) (32768 ∷ 32768 ∷ 32768 ∷ [])) }

@@ -3,7 +3,7 @@
 ghost use Rattle.std.specs.Prelude.{◌≡◌, ◌++◌, ◌^◌, ◌<◌, ◌≤◌, All, IfOk, List, false, length, nat_eq, ℕ};
 ghost use Rattle.std.specs.List.{range_with_len};
 ghost use Rattle.either.specs.declared.Either.{Either};
-ghost use Rattle.constriction_adaptive.specs.ByContext.{state_of};
+ghost use Rattle.constriction_adaptive.specs.ByContext.{context_state};
 ghost use Rattle.constriction_adaptive.specs.Categorical.{even_many};
 ghost use Rattle.constriction_adaptive.specs.LastSymbols.{none_recent};
 ghost use Rattle.constriction_adaptive.specs.Pair.{equal_on_sides, pair_state};
@@ -31,14 +31,12 @@ type Symbol = Either<usize, usize>;
 /// Predicts classes by the class before, and the bits of a class all alike.
 pub fn by_classes(alloc: Global) -> Result<Samples, ModelError>
     ensures { IfOk result (λ made. ⟦<Samples as Predictor<16>>⟧.state made ≡ pair_state
-        (state_of (even_many 17 16 17) (none_recent 17 1))
-        (state_of (range_with_len 0 17) (none_recent 17 1)) false) }
+        (context_state (even_many 17 16 17) (none_recent 17 1))
+        (context_state (range_with_len 0 17) (none_recent 17 1)) false) }
 {
     let before = LastSymbols::new(17, 1);
-    let classes = match AdaptiveCategorical::new_many(alloc, 17, before.contexts()) {
-        Ok(predictors) => ByContext::new(predictors, before),
-        Err(error) => return Err(error),
-    };
+    let predictors = AdaptiveCategorical::new_many(alloc, 17, before.contexts())?;
+    let classes = ByContext::new(predictors, before);
     match UniformBits::new_many(alloc, 17) {
         Ok(bits) => Ok(Pair::new(classes, bits, LastSymbols::new(17, 1))),
         Err(_) => Err(ModelError::OutOfMemory),
@@ -124,8 +122,8 @@ pub fn encoded(
     ensures { IfOk result (λ words. IsMessageFrom
         (predicted_entry ⟦<Samples as Predictor<16>>⟧.rows (equal_on_sides nat_eq nat_eq))
         ⟦<Samples as Predictor<16>>⟧.next 16
-        (pair_state (state_of (even_many 17 16 17) (none_recent 17 1))
-        (state_of (range_with_len 0 17) (none_recent 17 1)) false) symbols.now
+        (pair_state (context_state (even_many 17 16 17) (none_recent 17 1))
+        (context_state (range_with_len 0 17) (none_recent 17 1)) false) symbols.now
         words.items) }
 {
     match by_classes(alloc) {
@@ -144,8 +142,8 @@ pub fn decoded(
         → length symbols ≡ count → IsMessageFrom
         (predicted_entry ⟦<Samples as Predictor<16>>⟧.rows (equal_on_sides nat_eq nat_eq))
         ⟦<Samples as Predictor<16>>⟧.next 16
-        (pair_state (state_of (even_many 17 16 17) (none_recent 17 1))
-        (state_of (range_with_len 0 17) (none_recent 17 1)) false) symbols message
+        (pair_state (context_state (even_many 17 16 17) (none_recent 17 1))
+        (context_state (range_with_len 0 17) (none_recent 17 1)) false) symbols message
         → All (λ w. w < 2 ^ 32) more → words.now ≡ message ++ more → answers.items ≡ symbols) }
 {
     pairs_of_numbers_are_same::<AdaptiveCategorical<5, 16>, UniformBits<16>, 16>();

@@ -5,7 +5,7 @@ ghost use Rattle.constriction.specs.Precision.{IsPrecision};
 use crate::coding::{
     Refusal, queue_decode, queue_encode, stack_decode, stack_encode, to_symbols, to_words,
 };
-use crate::line::{Call, Request, parse};
+use crate::line::{Call, Request, parse_request};
 use std::alloc::{AllocError, Global};
 use std::fmt::{Display, Write};
 
@@ -60,7 +60,7 @@ fn answer_at<const PRECISION: usize>(alloc: Global, request: &Request) -> Result
 
 /// The answer at the precision that the line names.
 fn answered(alloc: Global, line: &[u8]) -> Result<Answer, Refusal> {
-    let Some(request) = parse(alloc, line)? else {
+    let Some(request) = parse_request(alloc, line)? else {
         return Err(Refusal::BadLine);
     };
     match request.precision {
@@ -73,7 +73,7 @@ fn answered(alloc: Global, line: &[u8]) -> Result<Answer, Refusal> {
 }
 
 /// Adds a line of numbers, which are words or symbols.
-fn push_numbers<N: Display>(text: &mut String, numbers: &[N]) -> Result<(), AllocError> {
+fn push_number_line<N: Display>(text: &mut String, numbers: &[N]) -> Result<(), AllocError> {
     let mut first = true;
     for number in numbers {
         if !first {
@@ -86,10 +86,14 @@ fn push_numbers<N: Display>(text: &mut String, numbers: &[N]) -> Result<(), Allo
 }
 
 /// Adds the answer to a line. If memory is refused, a part of it may have been added.
-pub(crate) fn push_answer(alloc: Global, text: &mut String, line: &[u8]) -> Result<(), AllocError> {
+pub(crate) fn push_answer_to_call(
+    alloc: Global,
+    text: &mut String,
+    line: &[u8],
+) -> Result<(), AllocError> {
     match answered(alloc, line) {
-        Ok(Answer::Words(words)) => push_numbers(text, &words),
-        Ok(Answer::Symbols(symbols)) => push_numbers(text, &symbols),
+        Ok(Answer::Words(words)) => push_number_line(text, &words),
+        Ok(Answer::Symbols(symbols)) => push_number_line(text, &symbols),
         Err(Refusal::BadLine) => text.push_str("bad line\n"),
         Err(Refusal::Invalid) => text.push_str("invalid\n"),
         Err(Refusal::ImpossibleSymbol) => text.push_str("none\n"),

@@ -186,7 +186,7 @@ fn named(name: Option<&str>) -> Option<&str> {
 }
 
 /// What arguments ask for, the program's name not among them.
-pub(crate) fn parse<'a>(words: &'a [String]) -> Result<Arguments<'a>, Misuse<'a>> {
+pub(crate) fn parse_arguments<'a>(words: &'a [String]) -> Result<Arguments<'a>, Misuse<'a>> {
     let Some((first, others)) = words.split_first() else {
         return Ok(Arguments::new(Action::Lines));
     };

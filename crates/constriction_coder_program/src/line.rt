@@ -94,7 +94,7 @@ fn parse_head(line: &[u8]) -> Option<(Call, u64, Option<&[u8]>)> {
 }
 
 /// What a line asks for, if it spells a call.
-pub(crate) fn parse(alloc: Global, line: &[u8]) -> Result<Option<Request>, AllocError> {
+pub(crate) fn parse_request(alloc: Global, line: &[u8]) -> Result<Option<Request>, AllocError> {
     let Some((call, precision, rest)) = parse_head(line) else {
         return Ok(None);
     };

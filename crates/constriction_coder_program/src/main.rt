@@ -13,7 +13,7 @@ mod packing;
 mod run;
 mod streams;
 
-use crate::arguments::{Action, Arguments, parse};
+use crate::arguments::{Action, Arguments, parse_arguments};
 use crate::help::HELP;
 use crate::run::run_lines;
 use constriction_text::RunFault;
@@ -42,7 +42,7 @@ fn run_action(rt: &HostRuntime, arguments: &Arguments) -> ExitCode {
     match arguments.action {
         Action::Help => exit_code(rt, rt.print(HELP).map_err(|_| RunFault::Write)),
         Action::Lines => exit_code(rt, answer_lines(rt)),
-        Action::Pack | Action::Unpack | Action::Test => packing::run(rt, arguments),
+        Action::Pack | Action::Unpack | Action::Test => packing::pack_or_unpack(rt, arguments),
     }
 }
 
@@ -64,7 +64,7 @@ fn main(rt: HostRuntime) -> ExitCode {
             return ExitCode::from(64);
         }
     };
-    match parse(&words) {
+    match parse_arguments(&words) {
         Ok(arguments) => run_action(&rt, &arguments),
         Err(error) => {
             let _ = eprintln!(rt; "coder: {error}");

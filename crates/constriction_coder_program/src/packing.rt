@@ -125,7 +125,7 @@ fn open_and_run<'a>(rt: &HostRuntime, arguments: &Arguments<'a>) -> Result<(), F
 }
 
 /// Does what the arguments ask of a file, and answers the exit status.
-pub(crate) fn run(rt: &HostRuntime, arguments: &Arguments) -> ExitCode {
+pub(crate) fn pack_or_unpack(rt: &HostRuntime, arguments: &Arguments) -> ExitCode {
     match open_and_run(rt, arguments) {
         Ok(()) => ExitCode::SUCCESS,
         Err(error) => {

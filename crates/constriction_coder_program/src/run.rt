@@ -1,19 +1,23 @@
 //! A run over a reader and a writer.
 
-use crate::answers::push_answer;
+use crate::answers::push_answer_to_call;
 use constriction_io::write_whole;
 use constriction_text::{RunFault, first_line, read_input};
 use std::alloc::Global;
 use std::io::{BufWriter, Read, Write};
 
 /// Writes the answers to the lines of an input.
-fn write_answers<W: Write>(alloc: Global, input: &[u8], writer: &mut W) -> Result<(), RunFault> {
+fn write_answers_to_calls<W: Write>(
+    alloc: Global,
+    input: &[u8],
+    writer: &mut W,
+) -> Result<(), RunFault> {
     let mut text = String::new(alloc);
     let mut rest = input;
     while !rest.is_empty() {
         let (line, after) = first_line(rest);
         text.clear();
-        if push_answer(alloc, &mut text, line).is_err() {
+        if push_answer_to_call(alloc, &mut text, line).is_err() {
             return Err(RunFault::OutOfMemory);
         }
         write_whole(writer, text.as_bytes())?;
@@ -33,7 +37,7 @@ pub(crate) fn run_lines<R: Read, W: Write + Drop>(
 ) -> Result<(), RunFault> {
     let input = read_input(alloc, reader)?;
     match BufWriter::new(alloc, writer) {
-        Ok(mut writer) => write_answers(alloc, &input, &mut writer),
+        Ok(mut writer) => write_answers_to_calls(alloc, &input, &mut writer),
         Err(_) => Err(RunFault::OutOfMemory),
     }
 }

@@ -9,7 +9,7 @@ use Rattle.constriction_model.specs.Coding.{InTurn}
 use Rattle.constriction_model.specs.lemmas.Turns.{turn-last}
 use Rattle.constriction_words.specs.declared.CoderError.{CoderError}
 use Rattle.constriction_coders.proofs.Stopping.{turns-append}
-use Rattle.constriction_coders.specs.Filling.{IsFilled, IsFilledTo, FillingStops}
+use Rattle.constriction_coders.specs.Filling.{FirstAreFilled, IsFilledTo, FillingStops}
 
 -- lists with the same symbols from a place on have the same after it
 drop-next : {X : Type 0} (xs ys : List X) (i : ℕ) (x : X) → i < length xs → i < length ys → drop i xs ≡ drop i ys
@@ -39,7 +39,7 @@ module _ {Coder Content Symbol : Type 0} (held : Coder → Content) (Step : Symb
   many_taken within = length-take-le i symbols (omega (arith, within, long))
 
   -- so far it is filled
-  abbrev pub filled-so-far : i ≤ length before → IsFilled held Step before symbols old reached
+  abbrev pub filled-so-far : i ≤ length before → FirstAreFilled held Step before symbols old reached
   filled-so-far within = record {
     done = take i symbols;
     filled =
@@ -69,7 +69,7 @@ module _ {Coder Content Symbol : Type 0} (held : Coder → Content) (Step : Symb
 -- a list whose symbols were all decoded is filled
 pub all-filled : {Coder Content Symbol : Type 0} (held : Coder → Content) (Step : Symbol → Content → Content → Type 0)
     (before symbols : List Symbol) (old : Content) (reached : Coder) → length symbols ≡ length before
-    → InTurn Step symbols old (held reached) → IsFilled held Step before symbols old reached
+    → InTurn Step symbols old (held reached) → FirstAreFilled held Step before symbols old reached
 all-filled held Step before symbols old reached long led = record {
   done = symbols;
   filled =

@@ -24,7 +24,7 @@ pub enum CountsError {
 }
 
 /// The sum of counts, and how many of them are not 0.
-fn tally(counts: &[u64]) -> (u128, u64)
+fn total_and_occurring(counts: &[u64]) -> (u128, u64)
     ensures total { result.0 ≡ sum counts.now }
     ensures bounded { result.0 < 2 ^ 127 }
     ensures occurring { result.1 ≡ occurring counts.now }
@@ -120,7 +120,7 @@ pub fn weigh<const PRECISION: usize>(
     ensures err { OnErr result (weights.new.items ≡ weights.old.items) }
 {
     let size = 1u64 << PRECISION;
-    let (total, occurring) = tally(counts);
+    let (total, occurring) = total_and_occurring(counts);
     if occurring == 0 {
         return Err(CountsError::NothingOccurs);
     }

@@ -1,7 +1,7 @@
 //! Two messages that are decoded side by side.
 
 ghost use Rattle.std.specs.Prelude.{◌≡◌, ◌≤◌, List, IfErr, OnOk, length};
-ghost use Rattle.constriction_coders.specs.Filling.{FillingStops, IsFilled, IsFilledTo};
+ghost use Rattle.constriction_coders.specs.Filling.{FillingStops, FirstAreFilled, IsFilledTo};
 ghost use Rattle.constriction_coders.specs.SideBySide.{OneStops};
 ghost use Rattle.constriction_model.specs.Coding.{InTurn};
 
@@ -57,12 +57,12 @@ where
         (λ e. FillingStops A.held (A.is_decoded D.Symbol D.stands_for (D.rows model.now))
         (A.decodes D.Symbol D.may_refuse (D.rows model.now)) first.old first.new e
         (A.held first_coder.old) first_coder.new)
-        (IsFilled A.held (A.is_decoded D.Symbol D.stands_for (D.rows model.now)) first.old
+        (FirstAreFilled A.held (A.is_decoded D.Symbol D.stands_for (D.rows model.now)) first.old
         first.new (A.held first_coder.old) first_coder.new)
         (λ e. FillingStops B.held (B.is_decoded D.Symbol D.stands_for (D.rows model.now))
         (B.decodes D.Symbol D.may_refuse (D.rows model.now)) second.old second.new e
         (B.held second_coder.old) second_coder.new)
-        (IsFilled B.held (B.is_decoded D.Symbol D.stands_for (D.rows model.now)) second.old
+        (FirstAreFilled B.held (B.is_decoded D.Symbol D.stands_for (D.rows model.now)) second.old
         second.new (B.held second_coder.old) second_coder.new) error) }
 {
     for done in 0..count {
@@ -147,12 +147,12 @@ where
         (λ e. FillingStops A.held (A.is_decoded D.Symbol D.stands_for (D.rows model.now))
         (A.decodes D.Symbol D.may_refuse (D.rows model.now)) first.old first.new e
         (A.held first_coder.old) first_coder.new)
-        (IsFilled A.held (A.is_decoded D.Symbol D.stands_for (D.rows model.now)) first.old
+        (FirstAreFilled A.held (A.is_decoded D.Symbol D.stands_for (D.rows model.now)) first.old
         first.new (A.held first_coder.old) first_coder.new)
         (λ e. FillingStops B.held (B.is_decoded D.Symbol D.stands_for (D.rows model.now))
         (B.decodes D.Symbol D.may_refuse (D.rows model.now)) second.old second.new e
         (B.held second_coder.old) second_coder.new)
-        (IsFilled B.held (B.is_decoded D.Symbol D.stands_for (D.rows model.now)) second.old
+        (FirstAreFilled B.held (B.is_decoded D.Symbol D.stands_for (D.rows model.now)) second.old
         second.new (B.held second_coder.old) second_coder.new) error) }
 {
     let count = first.len().min(second.len());

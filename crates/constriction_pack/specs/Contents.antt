@@ -93,6 +93,7 @@ pub record IsPredicted {State : Type 0} (rows : State → List (Row Bool)) (next
 abbrev pub few_contexts : MixerState
 few_contexts = mixer_begun FEW_CONTEXTS FEW_GROUPS FEW_FOLLOWERS FEW_REACH
 
+-- the mixer of many contexts, before the first bit
 abbrev pub many_contexts : MixerState
 many_contexts = mixer_begun MANY_CONTEXTS MANY_GROUPS MANY_FOLLOWERS MANY_REACH
 

@@ -18,16 +18,16 @@ IsRefusal Damaged = Unit {0}
 IsRefusal TooLong = Unit {0}
 
 -- the exit status of a program that a fault stops
-abbrev pub status_of : PackError → ℕ
-status_of Read = 1
-status_of Write = 1
-status_of OutOfMemory = 3
-status_of NotPacked = 2
-status_of Cut = 2
-status_of Damaged = 2
-status_of TooLong = 2
+abbrev pub error_status : PackError → ℕ
+error_status Read = 1
+error_status Write = 1
+error_status OutOfMemory = 3
+error_status NotPacked = 2
+error_status Cut = 2
+error_status Damaged = 2
+error_status TooLong = 2
 
 -- the fault that a read stops by
-abbrev pub of_reading : ReadError → PackError
-of_reading (Reader error) = Read
-of_reading other = OutOfMemory
+abbrev pub error_of_read : ReadError → PackError
+error_of_read (Reader error) = Read
+error_of_read other = OutOfMemory

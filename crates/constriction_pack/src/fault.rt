@@ -1,7 +1,7 @@
 //! What stops packing and unpacking.
 
 ghost use Rattle.std.specs.Prelude.{◌≡◌};
-ghost use Rattle.constriction_pack.specs.Faults.{status_of};
+ghost use Rattle.constriction_pack.specs.Faults.{error_status};
 
 use constriction_io::{ReadError, WriteError};
 use std::alloc::{AllocError, AllocFailed};
@@ -36,7 +36,7 @@ pub enum PackError {
 impl PackError {
     /// The exit status of a program that the fault stops: 1, 2 or 3.
     pub fn status(&self) -> u8
-        ensures { result ≡ status_of self.now }
+        ensures { result ≡ error_status self.now }
     {
         match self {
             PackError::Read | PackError::Write => 1,
@@ -67,9 +67,9 @@ impl<T: Drop> From<AllocFailed<T>> for PackError {
 }
 
 impl From<ReadError> for PackError {
-    ghost use Rattle.constriction_pack.specs.Faults.{of_reading};
+    ghost use Rattle.constriction_pack.specs.Faults.{error_of_read};
 
-    ghost from_gives = { λ error fault. fault ≡ of_reading error };
+    ghost from_gives = { λ error fault. fault ≡ error_of_read error };
 
     fn from(error: ReadError) -> Self {
         match error {

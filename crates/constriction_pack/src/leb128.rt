@@ -1,7 +1,7 @@
 //! Weights as bytes: each less one in LEB128.
 
-ghost use Rattle.std.specs.Prelude.{◌≡◌, ◌≢◌, ◌<◌, ◌≤◌, ◌-◌, ◌^◌, ◌++◌, ℕ, List, All, IfErr, IfOk};
-ghost use Rattle.std.specs.Prelude.{IfSome, IsSome, OnOk, drop, length};
+ghost use Rattle.std.specs.Prelude.{◌≡◌, ◌≢◌, ◌<◌, ◌≤◌, ◌-◌, ◌++◌, ℕ, List, All, IfErr, IfOk};
+ghost use Rattle.std.specs.Prelude.{IfSome, IsSome, drop, length};
 ghost use Rattle.constriction_pack.specs.Contents.{bytes_of_weights, leb128};
 
 use crate::fault::PackError;

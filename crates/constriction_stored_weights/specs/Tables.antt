@@ -27,7 +27,7 @@ weight_bits run (zero ∷ weights) = weight_bits (suc run) weights
 weight_bits run (suc less ∷ weights) = entry_bits run (suc less) ++ weight_bits 0 weights
 
 -- the weights of a table: at most 2^15, over 2^precision quantiles
-pub record IsTable (precision : ℕ) (weights : List ℕ) : Type 0 where
+pub record AreTableWeights (precision : ℕ) (weights : List ℕ) : Type 0 where
   pub few : length weights ≤ 2 ^ 15
   pub total : sum weights ≡ 2 ^ precision
 
@@ -42,7 +42,7 @@ pub record BeginsWithTable (precision count : ℕ) (bytes : List ℕ) : Type 0 w
   pub weights : List ℕ
   pub text : List ℕ
   pub rest : List ℕ
-  pub is_table : IsTable precision weights
+  pub is_table : AreTableWeights precision weights
   pub counted : length weights ≡ count
   pub is_text : IsTableText weights text
   pub bytes_are : bytes ≡ text ++ rest

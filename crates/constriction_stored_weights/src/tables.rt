@@ -2,7 +2,7 @@
 
 ghost use Rattle.std.specs.Prelude.{◌≡◌, ◌≢◌, ◌↔◌, ℕ, List, ◌++◌, ◌^◌, ◌<◌, ◌≤◌, Err, IfOk, IsTrue, OnErr, OnOk, length, take};
 ghost use Rattle.std.specs.List.{All};
-ghost use Rattle.constriction_stored_weights.specs.Tables.{BeginsWithTable, EndsInTable, IsTable, IsTableText};
+ghost use Rattle.constriction_stored_weights.specs.Tables.{BeginsWithTable, EndsInTable, AreTableWeights, IsTableText};
 
 use crate::entries::{push_weights, read_entries};
 use crate::errors::{TableReadingError, TableWritingError};
@@ -13,7 +13,7 @@ use std::alloc::Global;
 /// Whether weights are a table's.
 fn are_a_table<const PRECISION: usize>(weights: &[u32]) -> bool
     requires { PRECISION ≤ 14 }
-    ensures { IsTrue result ↔ IsTable PRECISION weights.now }
+    ensures { IsTrue result ↔ AreTableWeights PRECISION weights.now }
 {
     if weights.len() > 1 << 15 {
         return false;
@@ -36,9 +36,9 @@ pub fn write_table<const PRECISION: usize>(
     requires { PRECISION ≤ 14 }
     ensures ok { OnOk result ((text : List ℕ)
         × (bytes.new.items ≡ bytes.old.items ++ text) × IsTableText weights.now text) }
-    ensures table { OnOk result (IsTable PRECISION weights.now) }
+    ensures table { OnOk result (AreTableWeights PRECISION weights.now) }
     ensures not_a_table { (result ≡ Err TableWritingError.NotATable)
-        ↔ (¬ (IsTable PRECISION weights.now)) }
+        ↔ (¬ (AreTableWeights PRECISION weights.now)) }
     ensures err { OnErr result (bytes.new.items ≡ bytes.old.items) }
 {
     if !are_a_table::<PRECISION>(weights) {
@@ -64,7 +64,7 @@ pub fn read_table<const PRECISION: usize>(
 ) -> Result<(Vec<u32>, usize), TableReadingError>
     requires precision { PRECISION ≤ 14 }
     requires few { count ≤ 2 ^ 15 }
-    ensures ok { IfOk result (λ read. IsTable PRECISION read.0.items
+    ensures ok { IfOk result (λ read. AreTableWeights PRECISION read.0.items
         × (length read.0.items ≡ count) × (read.1 ≤ length bytes.now)
         × IsTableText read.0.items (take read.1 bytes.now)) }
     // Bytes begin with one table at most.
@@ -101,7 +101,7 @@ pub fn table_comes_back<const PRECISION: usize>(
     requires { PRECISION ≤ 14 }
     ensures same { IfOk result (λ read. read.items ≡ weights.now) }
     ensures not_a_table { (result ≡ Err (ReadWriteError.Write TableWritingError.NotATable))
-        ↔ (¬ (IsTable PRECISION weights.now)) }
+        ↔ (¬ (AreTableWeights PRECISION weights.now)) }
     ensures whole { result ≢ Err (ReadWriteError.Read TableReadingError.TooFewBytes) }
     ensures read { result ≢ Err (ReadWriteError.Read TableReadingError.NotATable) }
 {

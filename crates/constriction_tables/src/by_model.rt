@@ -9,9 +9,9 @@ ghost use Rattle.constriction_tables.specs.ModelRows.{table_model_rows};
 ghost use Rattle.constriction_tables.specs.Table.{same_number};
 ghost use Rattle.constriction_tables.specs.private.Partial.{HoldsTable};
 
-use crate::by_number::quantiles;
+use crate::by_number::quantile_count;
 use crate::entry::TableEntry;
-use crate::making::model_of;
+use crate::making::model_of_table;
 use crate::model::DirectTableModel;
 use crate::partial::PartialTable;
 use constriction_categorical::IterableEntropyModel;
@@ -22,7 +22,7 @@ use std::alloc::Global;
 
 /// The table of the rows of a model. `InvalidTable` comes only if two symbols that a walk may give
 /// are equal.
-fn table_walked<Entry: TableEntry, M, const PRECISION: usize>(
+fn table_of_model<Entry: TableEntry, M, const PRECISION: usize>(
     alloc: Global,
     model: M,
 ) -> Result<PartialTable<Entry>, ModelError>
@@ -36,7 +36,7 @@ where
         → ClonesRepeat (same_number Entry.number) M.stands_for (M.rows model) }
 {
     let mut walk = model.symbol_table();
-    let all = quantiles::<Entry, PRECISION>();
+    let all = quantile_count::<Entry, PRECISION>();
     let mut table = PartialTable::with_capacity(alloc, all as usize, 0)?;
     'rows: while let Some(row) = walk.next() {
         let (symbol, left, weight) = row?;
@@ -61,7 +61,7 @@ impl<Entry: TableEntry, const PRECISION: usize> DirectTableModel<Entry, PRECISIO
         ensures { IsMadeIfApart (same_number Entry.number) M.stands_for table_model_rows
             (M.rows model) result }
     {
-        let table = table_walked::<Entry, M, PRECISION>(alloc, model)?;
-        Ok(model_of(table))
+        let table = table_of_model::<Entry, M, PRECISION>(alloc, model)?;
+        Ok(model_of_table(table))
     }
 }

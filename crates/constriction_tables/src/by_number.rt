@@ -9,7 +9,7 @@ ghost use Rattle.constriction_tables.specs.Table.{first_symbols, weighted_rows};
 ghost use Rattle.constriction_tables.specs.private.Partial.{HoldsTable};
 
 use crate::entry::TableEntry;
-use crate::making::model_of;
+use crate::making::model_of_table;
 use crate::model::DirectTableModel;
 use crate::partial::PartialTable;
 use constriction_model::ModelError;
@@ -18,7 +18,7 @@ use std::alloc::Global;
 
 /// How many quantiles there are.
 #[inline]
-pub(crate) fn quantiles<Entry: TableEntry, const PRECISION: usize>() -> u32
+pub(crate) fn quantile_count<Entry: TableEntry, const PRECISION: usize>() -> u32
     requires { IsPrecision Entry.ROW_BITS PRECISION }
     ensures value { result ≡ 2 ^ PRECISION }
     ensures small { result ≤ 65536 }
@@ -28,7 +28,7 @@ pub(crate) fn quantiles<Entry: TableEntry, const PRECISION: usize>() -> u32
 
 /// The table of the weights other than 0, and their sum. `InvalidTable` comes if it exceeds
 /// `2^PRECISION`.
-fn weighted<Entry: TableEntry, const PRECISION: usize>(
+fn table_of_weights<Entry: TableEntry, const PRECISION: usize>(
     mut table: PartialTable<Entry>,
     weights: &[u32],
 ) -> Result<(PartialTable<Entry>, u32), ModelError>
@@ -42,7 +42,7 @@ fn weighted<Entry: TableEntry, const PRECISION: usize>(
     ensures within { IfOk result (λ x. x.1 ≤ 2 ^ PRECISION) }
     ensures invalid { result ≡ Err ModelError.InvalidTable → 2 ^ PRECISION < sum weights.now }
 {
-    let total = quantiles::<Entry, PRECISION>();
+    let total = quantile_count::<Entry, PRECISION>();
     let mut left = 0;
     for (number, weight) in weights.iter().enumerate() {
         if *weight > total - left {
@@ -81,7 +81,7 @@ fn with_last<Entry: TableEntry, const PRECISION: usize>(
     ensures some { IfOk result (λ _. sum weights.now < 2 ^ PRECISION) }
     ensures invalid { result ≡ Err ModelError.InvalidTable → 2 ^ PRECISION ≤ sum weights.now }
 {
-    let all = quantiles::<Entry, PRECISION>();
+    let all = quantile_count::<Entry, PRECISION>();
     if total == all {
         return Err(ModelError::InvalidTable);
     }
@@ -110,13 +110,13 @@ impl<Entry: TableEntry, const PRECISION: usize> DirectTableModel<Entry, PRECISIO
         ensures invalid { result ≡ Err ModelError.InvalidTable
             → ¬ (sum probabilities.now ≡ 2 ^ PRECISION) }
     {
-        let all = quantiles::<Entry, PRECISION>();
+        let all = quantile_count::<Entry, PRECISION>();
         let room = PartialTable::with_capacity(alloc, all as usize, probabilities.len())?;
-        let (table, total) = weighted::<Entry, PRECISION>(room, probabilities)?;
+        let (table, total) = table_of_weights::<Entry, PRECISION>(room, probabilities)?;
         if total < all {
             return Err(ModelError::InvalidTable);
         }
-        Ok(model_of(table))
+        Ok(model_of_table(table))
     }
 
     /// The model of these weights, one for each symbol in the order of their numbers, from 0 on. If
@@ -148,16 +148,16 @@ impl<Entry: TableEntry, const PRECISION: usize> DirectTableModel<Entry, PRECISIO
         if !are_positive(probabilities) {
             return Err(ModelError::InvalidTable);
         }
-        let all = quantiles::<Entry, PRECISION>();
+        let all = quantile_count::<Entry, PRECISION>();
         let room = PartialTable::with_capacity(alloc, all as usize, probabilities.len())?;
-        let (table, total) = weighted::<Entry, PRECISION>(room, probabilities)?;
+        let (table, total) = table_of_weights::<Entry, PRECISION>(room, probabilities)?;
         if infer_last_probability {
             let table = with_last::<Entry, PRECISION>(table, probabilities, total)?;
-            return Ok(model_of(table));
+            return Ok(model_of_table(table));
         }
         if total < all {
             return Err(ModelError::InvalidTable);
         }
-        Ok(model_of(table))
+        Ok(model_of_table(table))
     }
 }

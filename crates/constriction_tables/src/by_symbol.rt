@@ -9,9 +9,9 @@ ghost use Rattle.constriction_tables.specs.ModelRows.{table_model_rows};
 ghost use Rattle.constriction_tables.specs.Table.{same_number};
 ghost use Rattle.constriction_tables.specs.private.Partial.{HoldsTable};
 
-use crate::by_number::quantiles;
+use crate::by_number::quantile_count;
 use crate::entry::TableEntry;
-use crate::making::model_of;
+use crate::making::model_of_table;
 use crate::model::DirectTableModel;
 use crate::partial::PartialTable;
 use constriction_model::ModelError;
@@ -46,7 +46,7 @@ fn table_read<
     let symbols = symbols.into_iter();
     let probabilities = probabilities.into_iter();
     let announced = rows_announced::<PRECISION>(symbols.size_hint().0);
-    let all = quantiles::<Entry, PRECISION>();
+    let all = quantile_count::<Entry, PRECISION>();
     let room = PartialTable::with_capacity(alloc, all as usize, announced)?;
     rows_read::<u32, Entry::Symbol, PartialTable<Entry>, _, _, PRECISION>(
         room,
@@ -93,6 +93,6 @@ impl<Entry: TableEntry, const PRECISION: usize> DirectTableModel<Entry, PRECISIO
             probabilities,
             infer_last_probability,
         )?;
-        Ok(model_of(table))
+        Ok(model_of_table(table))
     }
 }

@@ -11,7 +11,7 @@ use crate::model::DirectTableModel;
 use crate::partial::PartialTable;
 
 /// The model of a table of rows that tile.
-pub(crate) fn model_of<Entry: TableEntry, const PRECISION: usize>(
+pub(crate) fn model_of_table<Entry: TableEntry, const PRECISION: usize>(
     table: PartialTable<Entry>,
 ) -> DirectTableModel<Entry, PRECISION>
     requires precision { IsPrecision Entry.ROW_BITS PRECISION }

@@ -12,16 +12,16 @@ abbrev pub limit : ℕ
 limit = 1048576
 
 -- the exit status of a program that a fault stops
-abbrev pub status_of : RunFault → ℕ
-status_of Read = 1
-status_of Write = 1
-status_of TooLong = 2
-status_of OutOfMemory = 3
+abbrev pub fault_status : RunFault → ℕ
+fault_status Read = 1
+fault_status Write = 1
+fault_status TooLong = 2
+fault_status OutOfMemory = 3
 
 -- the fault of a run that a read stops
-abbrev pub of_reading : ReadError → RunFault
-of_reading (Reader error) = Read
-of_reading other = OutOfMemory
+abbrev pub fault_of_read : ReadError → RunFault
+fault_of_read (Reader error) = Read
+fault_of_read other = OutOfMemory
 
 -- some bytes were read, and P holds of them
 abbrev pub HasRead : Option (List ℕ) → Option (List ℕ) → (List ℕ → Type 0) → Type 0

@@ -1,7 +1,7 @@
 //! What stops a run.
 
 ghost use Rattle.std.specs.Prelude.{◌≡◌};
-ghost use Rattle.constriction_text.specs.Runs.{status_of};
+ghost use Rattle.constriction_text.specs.Runs.{fault_status};
 
 use constriction_io::{ReadError, WriteError};
 use thiserror::Error;
@@ -27,7 +27,7 @@ pub enum RunFault {
 impl RunFault {
     /// The exit status of a program that the fault stops: 1, 2 or 3.
     pub fn status(&self) -> u8
-        ensures { result ≡ status_of self.now }
+        ensures { result ≡ fault_status self.now }
     {
         match self {
             RunFault::Read | RunFault::Write => 1,
@@ -38,9 +38,9 @@ impl RunFault {
 }
 
 impl From<ReadError> for RunFault {
-    ghost use Rattle.constriction_text.specs.Runs.{of_reading};
+    ghost use Rattle.constriction_text.specs.Runs.{fault_of_read};
 
-    ghost from_gives = { λ error fault. fault ≡ of_reading error };
+    ghost from_gives = { λ error fault. fault ≡ fault_of_read error };
 
     fn from(error: ReadError) -> Self {
         match error {

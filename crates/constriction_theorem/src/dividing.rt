@@ -1,6 +1,6 @@
 //! The dividing model of a list of weights, if there is one, and what it replies.
 
-ghost use Rattle.std.specs.Prelude.{◌≡◌, ◌∷◌, ◌++◌, ◌↔◌, ◌^◌, ◌<◌, ◌≤◌, ℕ, [], All, MatchOption, length, map, nat_eq, IfOk, IsTrue};
+ghost use Rattle.std.specs.Prelude.{◌≡◌, ◌∷◌, ◌++◌, ◌↔◌, ◌^◌, ◌<◌, ◌≤◌, ℕ, [], All, MatchOption, map, nat_eq, IfOk, IsTrue};
 ghost use Rattle.constriction_model.specs.Acceptance.{completed, Tiles};
 ghost use Rattle.constriction_model.specs.Entries.{SameEntries};
 ghost use Rattle.constriction_model.specs.Precision.{IsLookupPrecision};
@@ -119,7 +119,7 @@ fn has_number<Word: IndexWord>(word: Word, number: usize) -> bool
 }
 
 /// Whether all words have this number.
-fn are_all<Word: IndexWord>(words: &[Word], number: usize) -> bool
+fn all_have_number<Word: IndexWord>(words: &[Word], number: usize) -> bool
     requires { number < usize.MAX }
     ensures { IsTrue result ↔ All (λ word. Word.whole word ≡ number) words.now }
 {
@@ -132,7 +132,7 @@ fn are_all<Word: IndexWord>(words: &[Word], number: usize) -> bool
 }
 
 /// All weights but the last one, which may be inferred. No weights have no last one.
-fn before_last<'w, Word: WholeNumber, const PRECISION: usize>(
+fn all_but_last<'w, Word: WholeNumber, const PRECISION: usize>(
     weights: &'w [Word],
     infer_last_probability: bool,
 ) -> Option<&'w [Word]>
@@ -167,10 +167,10 @@ pub(crate) fn range_of<Word: IndexWord, const PRECISION: usize>(
     ensures { let all = completed PRECISION infer_last_probability (map Word.whole weights.now) in
         Tiles PRECISION all → IsRangeOf PRECISION (contiguous_rows all) result }
 {
-    let before = before_last::<Word, PRECISION>(weights, infer_last_probability)?;
+    let before = all_but_last::<Word, PRECISION>(weights, infer_last_probability)?;
     let quantiles = quantiles::<PRECISION>();
     let last = before.len();
-    if last == 0 || last >= quantiles || !are_all(before, quantiles / (last + 1)) {
+    if last == 0 || last >= quantiles || !all_have_number(before, quantiles / (last + 1)) {
         return None;
     }
     Some(last + 1)

@@ -4,6 +4,7 @@ use Rattle.std.proofs.Common.{ap, ◌∙◌}
 use Rattle.std.proofs.lemmas.Bool.{eqb-true}
 use Rattle.constriction_model.specs.Coding.{StandsForEqual}
 
+-- a number that stands for another one is that
 pub number-same : (symbol answer : ℕ) → StandsForEqual (λ s t. t ≡ s) nat_eq symbol answer → answer ≡ symbol
 number-same symbol answer e = e.2 ∙ eqb-true e.0 symbol e.1
 

@@ -9,7 +9,7 @@ use Rattle.constriction_model.specs.Rows.{Row, RowsTile, rows_from}
 use Rattle.either.specs.Either.{SameSide}
 use Rattle.either.specs.declared.Either.{Either}
 use Rattle.either.specs.declared.Either.TheVariants.{Left, Right}
-use Rattle.constriction_adaptive.specs.ByContext.{state_of}
+use Rattle.constriction_adaptive.specs.ByContext.{context_state}
 use Rattle.constriction_adaptive.specs.Pair.{PairState, pair_state, after_side, equal_on_sides, with_symbols, without_symbols}
 use Rattle.constriction_adaptive.specs.lemmas.ByContext.{learned-same}
 
@@ -97,9 +97,9 @@ module _ {L R Context A B : Type 0} (next_left : L → A → L) (next_right : R 
             → SameSide stands_left stands_right own answer
             → after_side next_left next_right number after s answer ≡ after_side next_left next_right number after s symbol
         go (Left own) (Left a) (Left b) eq stands =
-            ap (λ left. if s.is_right then s else pair_state left (state_of s.right.predictors (after s.right.context b)) true)
+            ap (λ left. if s.is_right then s else pair_state left (context_state s.right.predictors (after s.right.context b)) true)
             (left_same s.left a b (own, eq, stands))
-            ∙ ap (λ context. if s.is_right then s else pair_state (next_left s.left a) (state_of s.right.predictors context) true)
+            ∙ ap (λ context. if s.is_right then s else pair_state (next_left s.left a) (context_state s.right.predictors context) true)
             (after_same s.right.context a b (own, eq, stands))
         go (Right own) (Right a) (Right b) eq stands =
             ap (λ right. if s.is_right then pair_state s.left right false else s)

@@ -3,9 +3,9 @@
 ghost use Rattle.std.specs.Prelude.{◌≡◌, ◌+◌, ◌*◌, ◌<◌, ◌≤◌, ℕ, length, map, slice_index};
 ghost use Rattle.constriction_adaptive.specs.Mixing.{
   place,
-  recent,
+  last_bytes,
   slots_moved,
-  spread,
+  scattered,
   strength,
 };
 
@@ -16,7 +16,7 @@ use crate::mixing::slot_moved_by;
 #[inline]
 pub(crate) fn spread_over(count: u32, key: u64) -> u32
     requires { 0 < count }
-    ensures value { result ≡ spread count key }
+    ensures value { result ≡ scattered count key }
     ensures below { result < count }
 {
     let hash = key.wrapping_mul(11400714819323198485) >> 32;
@@ -28,7 +28,7 @@ pub(crate) fn spread_over(count: u32, key: u64) -> u32
 pub(crate) fn recent_bytes(bytes: u32, history: u64) -> u64
     requires some { 0 < bytes }
     requires few { bytes ≤ 8 }
-    ensures { result ≡ recent bytes history }
+    ensures { result ≡ last_bytes bytes history }
 {
     history << (64 - 8 * bytes)
 }

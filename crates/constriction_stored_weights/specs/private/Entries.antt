@@ -1,7 +1,7 @@
 -- Bits that begin with an entry or with a table, or end within one.
 use Rattle.std.specs.Prelude.{◌≡◌, ℕ, ◌+◌, ◌*◌, ◌^◌, ◌<◌, ◌≤◌, List, [], ◌∷◌, ◌++◌, length, replicate, sum}
 use Rattle.constriction_stored_weights.specs.Bits.{bits}
-use Rattle.constriction_stored_weights.specs.Tables.{number_bits, entry_bits, weight_bits, IsTable}
+use Rattle.constriction_stored_weights.specs.Tables.{number_bits, entry_bits, weight_bits, AreTableWeights}
 
 -- bits that begin with an entry
 pub record BeginsWithEntry (bits : List ℕ) : Type 0 where
@@ -17,7 +17,7 @@ pub record BeginsWithEntry (bits : List ℕ) : Type 0 where
 pub record BeginsWithWeights (precision count : ℕ) (bits : List ℕ) : Type 0 where
   pub weights : List ℕ
   pub rest : List ℕ
-  pub is_table : IsTable precision weights
+  pub is_table : AreTableWeights precision weights
   pub counted : length weights ≡ count
   pub bits_are : bits ≡ weight_bits 0 weights ++ rest
 

@@ -22,10 +22,10 @@ returns-in_err-take_row-clause-invalid g c = λ h.
 pub returns-clause-held : goal.returns-clause-held
 returns-clause-held g c =
     let some : 0 < 2 ^ g.row.PRECISION - sum c.args.weights.now =
-    omega (arith, c.requires.total, c.requires.within, c.if-total-all.false, c.quantiles-all.ensures.value) in
+    omega (arith, c.requires.total, c.requires.within, c.if-total-all.false, c.quantile_count-all.ensures.value) in
     subst (λ (rs : List (Row g.row.Entry-Symbol.Denot)). HoldsTable g.Entry.TableEntry.number g.Entry.TableEntry.row_in
     g.Entry.TableEntry.ROW_BITS c.take_row.new.self.entries.items c.take_row.new.self.by_symbol.items rs)
     (weighted-last g.Entry.TableEntry.symbol_of c.args.weights.now (2 ^ g.row.PRECISION - sum c.args.weights.now) c.from_index.result
-    c.args.total (c.quantiles-all.result - c.args.total) some c.from_index.ensures c.requires.total
-    (omega (arith, c.requires.total, c.quantiles-all.ensures.value)))
+    c.args.total (c.quantile_count-all.result - c.args.total) some c.from_index.ensures c.requires.total
+    (omega (arith, c.requires.total, c.quantile_count-all.ensures.value)))
     (c.in_ok-take_row.ensures.held refl _ c.requires.held)

@@ -1,7 +1,7 @@
 use Rattle.std.proofs.Common.{List, Option, IfSome, ap, set, sym, subst, ◌∙◌, arith, get_or-set_same}
 use Rattle.std.proofs.lemmas.List.{length-set}
 use Rattle.std.proofs.lemmas.Result.{IfOk-weaker}
-use Rattle.constriction_adaptive.specs.ByContext.{state_of}
+use Rattle.constriction_adaptive.specs.ByContext.{context_state}
 use Rattle.constriction_adaptive.proofs.ByContextLemmas.{item-found, states-stay}
 use Rattle.constriction_adaptive.proofs.by_context.ByContextPredictor.reserve.Goals as goal
 
@@ -20,7 +20,7 @@ returns g c =
           IfOk-weaker c.reserve.result _ _
           (λ _ ready. subst (λ (o : Option g.row.P.Denot). IfSome o g.P.Predictor.can_learn) (sym found) ready) c.reserve.ensures.ready;
       same =
-          ap (λ states. state_of states (g.C.Context.state before.context))
+          ap (λ states. context_state states (g.C.Context.state before.context))
           (states-stay g.P.Predictor.state before.predictors.items i c.index_mut.result.now c.reserve.new.self
           c.index_mut.ensures.value c.reserve.ensures.same);
     }

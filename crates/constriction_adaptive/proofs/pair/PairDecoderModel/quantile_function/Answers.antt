@@ -1,7 +1,7 @@
 use Rattle.std.proofs.Common.{map, ap, sym, ◌∙◌}
 use Rattle.constriction_model.specs.lemmas.Coding.{row-within}
 use Rattle.either.specs.declared.Either.TheVariants.{Left, Right}
-use Rattle.constriction_adaptive.specs.ByContext.{rows_of, state_of}
+use Rattle.constriction_adaptive.specs.ByContext.{rows_if_any, context_state}
 use Rattle.constriction_adaptive.specs.Pair.{pair_state, with_symbols}
 use Rattle.constriction_adaptive.proofs.ByContextLemmas.{state-found}
 use Rattle.constriction_adaptive.proofs.PairLemmas.{row-with, side-left, side-right}
@@ -13,8 +13,8 @@ returns-in-Ok g c =
     let found = state-found m.rights.items c.index.result c.index-then-self.result.now c.index-then-self.ensures g.C.Context.number
     (g.C.Context.state m.context) _ c.index.ensures.number (sym m.each) c.index.ensures.below g.B.Predictor.state in
     let rows = side-right g.A.Predictor.rows g.B.Predictor.rows g.C.Context.number
-    (pair_state (g.A.Predictor.state m.left) (state_of (map g.B.Predictor.state m.rights.items) (g.C.Context.state m.context)) m.is_right)
-    c.if-self.true ∙ ap (λ o. with_symbols Right (rows_of g.B.Predictor.rows o)) found in
+    (pair_state (g.A.Predictor.state m.left) (context_state (map g.B.Predictor.state m.rights.items) (g.C.Context.state m.context)) m.is_right)
+    c.if-self.true ∙ ap (λ o. with_symbols Right (rows_if_any g.B.Predictor.rows o)) found in
     let row = c.in-Ok.ensures.row in
     record {
       row = (Right row.0, row.1, row-with Right _ _ (rows ∙ ap (with_symbols Right) (sym c.model.ensures)) c.args.quantile _ row.2);
@@ -28,8 +28,8 @@ returns-in-Err g c =
     let found = state-found m.rights.items c.index.result c.index-then-self.result.now c.index-then-self.ensures g.C.Context.number
     (g.C.Context.state m.context) _ c.index.ensures.number (sym m.each) c.index.ensures.below g.B.Predictor.state in
     let rows = side-right g.A.Predictor.rows g.B.Predictor.rows g.C.Context.number
-    (pair_state (g.A.Predictor.state m.left) (state_of (map g.B.Predictor.state m.rights.items) (g.C.Context.state m.context)) m.is_right)
-    c.if-self.true ∙ ap (λ o. with_symbols Right (rows_of g.B.Predictor.rows o)) found in
+    (pair_state (g.A.Predictor.state m.left) (context_state (map g.B.Predictor.state m.rights.items) (g.C.Context.state m.context)) m.is_right)
+    c.if-self.true ∙ ap (λ o. with_symbols Right (rows_if_any g.B.Predictor.rows o)) found in
     let row = c.in-Err.ensures.refused in
     record {
       row = tt;
@@ -41,7 +41,7 @@ pub returns-in-Ok-row_in_coder_words : goal.returns-in-Ok-row_in_coder_words
 returns-in-Ok-row_in_coder_words g c =
     let m = c.args.self.now in
     let rows = side-left g.A.Predictor.rows g.B.Predictor.rows g.C.Context.number
-    (pair_state (g.A.Predictor.state m.left) (state_of (map g.B.Predictor.state m.rights.items) (g.C.Context.state m.context)) m.is_right)
+    (pair_state (g.A.Predictor.state m.left) (context_state (map g.B.Predictor.state m.rights.items) (g.C.Context.state m.context)) m.is_right)
     c.if-self.false in
     let row = c.in-Ok-row_in_coder_words.ensures.row in
     record {
@@ -54,7 +54,7 @@ pub returns-in-Err-row_in_coder_words : goal.returns-in-Err-row_in_coder_words
 returns-in-Err-row_in_coder_words g c =
     let m = c.args.self.now in
     let rows = side-left g.A.Predictor.rows g.B.Predictor.rows g.C.Context.number
-    (pair_state (g.A.Predictor.state m.left) (state_of (map g.B.Predictor.state m.rights.items) (g.C.Context.state m.context)) m.is_right)
+    (pair_state (g.A.Predictor.state m.left) (context_state (map g.B.Predictor.state m.rights.items) (g.C.Context.state m.context)) m.is_right)
     c.if-self.false in
     let row = c.in-Err-row_in_coder_words.ensures.refused in
     record {

@@ -3,7 +3,7 @@ use Rattle.std.proofs.lemmas.List.{length-set}
 use Rattle.constriction_model.specs.Rows.{Row, RowsTile}
 use Rattle.either.specs.declared.Either.{Either}
 use Rattle.either.specs.declared.Either.TheVariants.{Left, Right}
-use Rattle.constriction_adaptive.specs.ByContext.{rows_of, state_of}
+use Rattle.constriction_adaptive.specs.ByContext.{rows_if_any, context_state}
 use Rattle.constriction_adaptive.specs.Pair.{pair_state, with_symbols, without_symbols}
 use Rattle.constriction_adaptive.proofs.ByContextLemmas.{item-found, state-found, states-learned}
 use Rattle.constriction_adaptive.proofs.PairLemmas.{right-learned, tile-of-side}
@@ -21,7 +21,7 @@ invariant_of-self g c =
       precise = c.rows_tile.ensures.precision;
       tile = subst (λ (rows : List (Row g.row.B-Symbol.Denot)). RowsTile 32 g.row.PRECISION
           (without_symbols (with_symbols {T = Either g.row.A-Symbol.Denot g.row.B-Symbol.Denot} Right rows)))
-          (sym (ap (rows_of g.B.Predictor.rows) found)) side;
+          (sym (ap (rows_if_any g.B.Predictor.rows) found)) side;
     }
 
 pub learn-requires-then-self : goal.learn-requires-then-self
@@ -46,7 +46,7 @@ returns-then-self g c =
     let m = c.args.self.now in
     let known = g.C.Context.state m.context in
     right-learned g.A.Predictor.next g.B.Predictor.next g.C.Context.number g.C.Context.next
-    (pair_state (g.A.Predictor.state m.left) (state_of (map g.B.Predictor.state m.rights.items) known) m.is_right) c.args.symbol.now
+    (pair_state (g.A.Predictor.state m.left) (context_state (map g.B.Predictor.state m.rights.items) known) m.is_right) c.args.symbol.now
     c.in-Right.symbol _ c.in-Right.is c.if-self.true
     (states-learned g.B.Predictor.state m.rights.items c.index-index.result c.index_mut.result.now c.learn-then-self.new.self
     c.index_mut.ensures.value g.B.Predictor.next g.C.Context.number (λ context _. context) known known c.in-Right.symbol _

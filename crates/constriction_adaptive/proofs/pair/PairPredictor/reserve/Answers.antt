@@ -2,7 +2,7 @@ use Rattle.std.proofs.Common.{◌≡◌, true, false, List, Option, IfSome, ap, 
 use Rattle.std.proofs.lemmas.List.{length-set}
 use Rattle.std.proofs.lemmas.Result.{IfOk-weaker}
 use Rattle.constriction_model.specs.Rows.{RowsTile}
-use Rattle.constriction_adaptive.specs.ByContext.{state_of}
+use Rattle.constriction_adaptive.specs.ByContext.{context_state}
 use Rattle.constriction_adaptive.specs.Pair.{pair_state, rows_of_side, without_symbols}
 use Rattle.constriction_adaptive.proofs.ByContextLemmas.{item-found, states-stay}
 use Rattle.constriction_adaptive.proofs.pair.PairPredictor.reserve.Goals as goal
@@ -10,7 +10,7 @@ use Rattle.constriction_adaptive.proofs.pair.PairPredictor.reserve.Goals as goal
 pub invariant_of-self : goal.invariant_of-self
 invariant_of-self g c =
     let m = c.args.self.now in
-    let right = state_of (map g.B.Predictor.state m.rights.items) (g.C.Context.state m.context) in
+    let right = context_state (map g.B.Predictor.state m.rights.items) (g.C.Context.state m.context) in
     record {
       each = m.each;
       precise = m.precise;
@@ -29,7 +29,7 @@ returns-then-not-self g c =
           c.reserve.ensures.ready;
       same =
           ap (λ (s : g.A.Predictor.State).
-          pair_state s (state_of (map g.B.Predictor.state m.rights.items) (g.C.Context.state m.context)) m.is_right)
+          pair_state s (context_state (map g.B.Predictor.state m.rights.items) (g.C.Context.state m.context)) m.is_right)
           c.reserve.ensures.same;
     }
 
@@ -43,7 +43,7 @@ invariant_of-self-2 g c =
       precise = m.precise;
       tile = subst (λ states. RowsTile 32 g.row.PRECISION
           (without_symbols (rows_of_side g.A.Predictor.rows g.B.Predictor.rows g.C.Context.number
-          (pair_state (g.A.Predictor.state m.left) (state_of states (g.C.Context.state m.context)) m.is_right)))) (sym stay) m.tile;
+          (pair_state (g.A.Predictor.state m.left) (context_state states (g.C.Context.state m.context)) m.is_right)))) (sym stay) m.tile;
     }
 
 pub returns-clause-ready : goal.returns-clause-ready
@@ -64,6 +64,6 @@ returns-clause-ready g c =
 pub returns-clause-same : goal.returns-clause-same
 returns-clause-same g c =
     let m = c.args.self.now in
-    ap (λ states. pair_state (g.A.Predictor.state m.left) (state_of states (g.C.Context.state m.context)) m.is_right)
+    ap (λ states. pair_state (g.A.Predictor.state m.left) (context_state states (g.C.Context.state m.context)) m.is_right)
     (states-stay g.B.Predictor.state m.rights.items c.index-index.result c.index_mut.result.now c.reserve-2.new.self
     c.index_mut.ensures.value c.reserve-2.ensures.same)

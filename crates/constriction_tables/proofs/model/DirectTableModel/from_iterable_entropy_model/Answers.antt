@@ -8,8 +8,8 @@ use Rattle.constriction_model.specs.lemmas.Stand.{tile-made}
 use Rattle.constriction_tables.proofs.ByModel.{tile-wide}
 use Rattle.constriction_tables.proofs.model.DirectTableModel.from_iterable_entropy_model.Goals as goal
 
-pub model_of-requires : goal.model_of-requires
-model_of-requires g c =
+pub model_of_table-requires : goal.model_of_table-requires
+model_of_table-requires g c =
     let M = g.met.M.IterableEntropyModel in
     let ok = c.in_ok-table.ensures.ok in
     let narrow : g.row.PRECISION < 32 = omega (arith, g.met.Entry.TableEntry.width_law, c.requires.fits) in (
@@ -31,7 +31,7 @@ returns g c =
     let M = g.met.M.IterableEntropyModel in
     let ok = c.in_ok-table.ensures.ok in
     let narrow : g.row.PRECISION < 32 = omega (arith, g.met.Entry.TableEntry.width_law, c.requires.fits) in
-    let rows = c.model_of.ensures ok.0 ok.2
+    let rows = c.model_of_table.ensures ok.0 ok.2
     (tile-wide g.M.Probability.WholeNumber.BITS 32 g.row.PRECISION ok.0 narrow
     (tile-made g.M.IterableEntropyModel.stands_for g.M.Probability.WholeNumber.BITS g.row.PRECISION ok.0
     (g.M.EntropyModel.rows c.args.model) ok.1 (M.tile_law c.args.model))) in
@@ -39,7 +39,7 @@ returns g c =
       ok = (
         subst (λ (rs : List (Row g.row.Entry-Symbol.Denot)).
             StandForRows g.M.IterableEntropyModel.stands_for rs (g.M.EntropyModel.rows c.args.model)) (sym rows) ok.1,
-        c.model_of.result.distinct,
+        c.model_of_table.result.distinct,
       );
       invalid = λ is. absurd (made-unrefused _ _ is);
     }

@@ -9,8 +9,8 @@ use Rattle.constriction_tables.proofs.model.DirectTableModel.from_nonzero_fixed_
 
 -- ---- the last weight is inferred
 
-pub model_of-requires : goal.model_of-requires
-model_of-requires g c =
+pub model_of_table-requires : goal.model_of_table-requires
+model_of_table-requires g c =
     let ws = c.args.probabilities.now in
     let narrow : g.row.PRECISION < 32 = omega (arith, g.met.Entry.TableEntry.width_law, c.requires.precision.fits) in (
       omega arith,
@@ -45,19 +45,19 @@ returns-then-infer_last_probability-clause-rows g c =
     let positive : All (λ w. 0 < w) ws = search rules in
     let infers : c.args.infer_last_probability ≡ true = search rules in
     let some = c.in_ok-table-2.ensures.some in
-    subst (λ (b : Bool). table_model_rows c.model_of.result ≡ rows_of
+    subst (λ (b : Bool). table_model_rows c.model_of_table.result ≡ rows_of
     (first_symbols symbol_of (length (completed g.row.PRECISION b ws))) (completed g.row.PRECISION b ws)) (sym infers)
-    (c.model_of.ensures _ c.in_ok-table-2.ensures.held
+    (c.model_of_table.ensures _ c.in_ok-table-2.ensures.held
     (weighted-tile symbol_of 32 g.row.PRECISION all narrow (inferred-total (2 ^ g.row.PRECISION) ws some))
     ∙ weighted-all symbol_of all (all-push ws (2 ^ g.row.PRECISION - sum ws) positive (omega (arith, some))))
 
 -- ---- all weights are given
 
-pub model_of-requires-2 : goal.model_of-requires-2
-model_of-requires-2 g c =
+pub model_of_table-requires-2 : goal.model_of_table-requires-2
+model_of_table-requires-2 g c =
     let narrow : g.row.PRECISION < 32 = omega (arith, g.met.Entry.TableEntry.width_law, c.requires.precision.fits) in
     let total : sum c.args.probabilities.now ≡ 2 ^ g.row.PRECISION =
-    omega (arith, c.in_ok-table.ensures.total, c.in_ok-table.ensures.within, c.if-total-all.false, c.quantiles-all.ensures.value) in (
+    omega (arith, c.in_ok-table.ensures.total, c.in_ok-table.ensures.within, c.if-total-all.false, c.quantile_count-all.ensures.value) in (
       omega arith,
       (
         c.requires.precision,
@@ -72,7 +72,7 @@ returns-clause-accepted g c =
     let positive : All (λ w. 0 < w) ws = search rules in
     let given : c.args.infer_last_probability ≡ false = search rules in
     let total : sum ws ≡ 2 ^ g.row.PRECISION =
-    omega (arith, c.in_ok-table.ensures.total, c.in_ok-table.ensures.within, c.if-total-all.false, c.quantiles-all.ensures.value) in
+    omega (arith, c.in_ok-table.ensures.total, c.in_ok-table.ensures.within, c.if-total-all.false, c.quantile_count-all.ensures.value) in
     subst (λ (b : Bool). IsAccepted 32 g.row.PRECISION (completed g.row.PRECISION b ws)) (sym given)
     (accepted-of 32 g.row.PRECISION ws narrow positive total)
 
@@ -84,8 +84,8 @@ returns-clause-rows g c =
     let positive : All (λ w. 0 < w) ws = search rules in
     let given : c.args.infer_last_probability ≡ false = search rules in
     let total : sum ws ≡ 2 ^ g.row.PRECISION =
-    omega (arith, c.in_ok-table.ensures.total, c.in_ok-table.ensures.within, c.if-total-all.false, c.quantiles-all.ensures.value) in
-    subst (λ (b : Bool). table_model_rows c.model_of-2.result ≡ rows_of
+    omega (arith, c.in_ok-table.ensures.total, c.in_ok-table.ensures.within, c.if-total-all.false, c.quantile_count-all.ensures.value) in
+    subst (λ (b : Bool). table_model_rows c.model_of_table-2.result ≡ rows_of
     (first_symbols symbol_of (length (completed g.row.PRECISION b ws))) (completed g.row.PRECISION b ws)) (sym given)
-    (c.model_of-2.ensures _ c.in_ok-table.ensures.held (weighted-tile symbol_of 32 g.row.PRECISION ws narrow total)
+    (c.model_of_table-2.ensures _ c.in_ok-table.ensures.held (weighted-tile symbol_of 32 g.row.PRECISION ws narrow total)
     ∙ weighted-all symbol_of ws positive)

@@ -8,8 +8,8 @@ use Rattle.constriction_categorical.proofs.Remade.{refused_both}
 use Rattle.constriction_tables.specs.Table.{same_number}
 use Rattle.constriction_tables.proofs.model.DirectTableModel.from_symbols_and_nonzero_fixed_point_probabilities.Goals as goal
 
-pub model_of-requires : goal.model_of-requires
-model_of-requires g c =
+pub model_of_table-requires : goal.model_of_table-requires
+model_of_table-requires g c =
     let read = c.in_ok-table.ensures.ok in (
       omega arith,
       (c.requires.precision, (_, read.5, accepted-tile (same_number g.Entry.TableEntry.number) 32 g.row.PRECISION _ _ read.4)),
@@ -27,7 +27,7 @@ returns g c =
         read.2,
         read.3,
         read.4,
-        c.model_of.ensures _ read.5 (accepted-tile (same_number g.Entry.TableEntry.number) 32 g.row.PRECISION _ _ read.4),
+        c.model_of_table.ensures _ read.5 (accepted-tile (same_number g.Entry.TableEntry.number) 32 g.row.PRECISION _ _ read.4),
       );
       invalid = λ is. absurd (made-unrefused _ _ is);
     })

@@ -3,7 +3,7 @@ use Rattle.constriction_model.specs.declared.error.ModelError.TheVariants.{Inval
 use Rattle.constriction_tables.specs.Table.{same_number}
 use Rattle.constriction_tables.specs.lemmas.Tables.{same_number-equivalence}
 use Rattle.constriction_tables.proofs.ByModel.{walked-again, walked-all, walked-stand, walked-within}
-use Rattle.constriction_tables.proofs.by_model.table_walked.Goals as goal
+use Rattle.constriction_tables.proofs.by_model.table_of_model.Goals as goal
 
 pub to_number-left-requires : goal.to_number-left-requires
 to_number-left-requires g c =
@@ -14,7 +14,7 @@ to_number-left-requires g c =
     (c.in_ok-symbol.symbol, c.in_ok-symbol.left, c.in_ok-symbol.weight) c.next.new.self
     (M.steps_law _ _ _ c.in-Some.ensures.steps) c.in_ok-symbol.was (g.M.EntropyModel.rows c.args.model) inv.3 inv.4
     g.M.Probability.WholeNumber.BITS g.row.PRECISION (M.tile_law c.args.model) in
-    omega (arith, within.1, c.quantiles-all.ensures.value, c.quantiles-all.ensures.small)
+    omega (arith, within.1, c.quantile_count-all.ensures.value, c.quantile_count-all.ensures.small)
 
 pub overflow_cast-left : goal.overflow_cast-left
 overflow_cast-left g c =
@@ -25,7 +25,7 @@ overflow_cast-left g c =
     (c.in_ok-symbol.symbol, c.in_ok-symbol.left, c.in_ok-symbol.weight) c.next.new.self
     (M.steps_law _ _ _ c.in-Some.ensures.steps) c.in_ok-symbol.was (g.M.EntropyModel.rows c.args.model) inv.3 inv.4
     g.M.Probability.WholeNumber.BITS g.row.PRECISION (M.tile_law c.args.model) in
-    omega (arith, within.1, c.quantiles-all.ensures.value, c.quantiles-all.ensures.small, c.to_number-left.ensures)
+    omega (arith, within.1, c.quantile_count-all.ensures.value, c.quantile_count-all.ensures.small, c.to_number-left.ensures)
 
 pub rows-preserved : goal.rows-preserved
 rows-preserved g c =

@@ -3,7 +3,7 @@ use Rattle.std.specs.List.{IsDistinct}
 use Rattle.constriction_model.specs.Rows.{Row, symbols_of}
 use Rattle.constriction_tables.specs.Table.{HasEntries, same_number}
 use Rattle.constriction_tables.proofs.Partials.{held-table}
-use Rattle.constriction_tables.proofs.making.model_of.Goals as goal
+use Rattle.constriction_tables.proofs.making.model_of_table.Goals as goal
 
 pub invariant_of-result : goal.invariant_of-result
 invariant_of-result g c =

@@ -5,8 +5,8 @@ use Rattle.constriction_model.specs.Rows.{Row}
 use Rattle.constriction_tables.specs.Table.{weighted_rows}
 use Rattle.constriction_tables.specs.private.Partial.{HoldsTable}
 use Rattle.constriction_tables.proofs.ByNumber.{weighted-more, weighted-new, weighted-same}
-use Rattle.constriction_tables.proofs.by_number.weighted.Goals as goal
-use Rattle.constriction_tables.proofs.by_number.weighted.Goals.{then-weight-gt0+in_ok-take_row, else-weight-gt0}
+use Rattle.constriction_tables.proofs.by_number.table_of_weights.Goals as goal
+use Rattle.constriction_tables.proofs.by_number.table_of_weights.Goals.{then-weight-gt0+in_ok-take_row, else-weight-gt0}
 
 pub returns-in_err-take_row-clause-invalid : goal.returns-in_err-take_row-clause-invalid
 returns-in_err-take_row-clause-invalid g c = λ h.
@@ -32,7 +32,7 @@ loop-number-preserved g c =
             w.if-weight-gt0.true w.from_index.ensures c.loop-number.invariant.total)
             (w.in_ok-take_row.ensures.held refl _ c.loop-number.invariant.held));
         total = omega (arith, more, w.left-is, c.loop-number.invariant.total);
-        within = omega (arith, w.left-is, c.if-weight-total.false, c.quantiles-total.ensures.value, c.loop-number.invariant.within);
+        within = omega (arith, w.left-is, c.if-weight-total.false, c.quantile_count-total.ensures.value, c.loop-number.invariant.within);
       }
       | else-weight-gt0 w ↦ record {
         held = rw w.table-is

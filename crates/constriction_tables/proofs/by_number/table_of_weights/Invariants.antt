@@ -2,7 +2,7 @@ use Rattle.std.proofs.Common.{◌≡◌, ◌^◌, ◌≤◌, take}
 use Rattle.std.specs.Prelude.{sum}
 use Rattle.constriction_tables.specs.Table.{weighted_rows}
 use Rattle.constriction_tables.specs.private.Partial.{HoldsTable}
-use Rattle.constriction_tables.proofs.by_number.weighted.Given as goal
+use Rattle.constriction_tables.proofs.by_number.table_of_weights.Given as goal
 
 -- the rows of the weights so far
 abbrev pub invariant-loop-number : goal.invariant-loop-number

@@ -2,7 +2,7 @@ use Rattle.std.proofs.Common.{◌-◌, ◌^◌, ◌∷◌, [], ◌∙◌, map, a
 use Rattle.std.specs.Prelude.{sum}
 use Rattle.std.proofs.lemmas.List.{map-append}
 use Rattle.constriction_model.specs.Acceptance.{completed}
-use Rattle.constriction_theorem.proofs.dividing.before_last.Goals as goal
+use Rattle.constriction_theorem.proofs.dividing.all_but_last.Goals as goal
 
 pub returns-then-infer_last_probability : goal.returns-then-infer_last_probability
 returns-then-infer_last_probability g c =

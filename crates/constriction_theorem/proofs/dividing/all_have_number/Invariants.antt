@@ -1,6 +1,6 @@
 use Rattle.std.proofs.Common.{◌≡◌, take}
 use Rattle.std.specs.Prelude.{All}
-use Rattle.constriction_theorem.proofs.dividing.are_all.Given as goal
+use Rattle.constriction_theorem.proofs.dividing.all_have_number.Given as goal
 
 -- the words so far have the number
 abbrev pub invariant-loop-word : goal.invariant-loop-word

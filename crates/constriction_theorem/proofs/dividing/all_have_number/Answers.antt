@@ -1,6 +1,6 @@
 use Rattle.std.proofs.Common.{rules}
 use Rattle.constriction_theorem.proofs.Uniform.{one-more-same, same-to-the-end}
-use Rattle.constriction_theorem.proofs.dividing.are_all.Goals as goal
+use Rattle.constriction_theorem.proofs.dividing.all_have_number.Goals as goal
 
 pub loop-word-preserved : goal.loop-word-preserved
 loop-word-preserved g c =

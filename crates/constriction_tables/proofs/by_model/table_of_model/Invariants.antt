@@ -4,7 +4,7 @@ use Rattle.std.specs.Iterator.{IsFinite}
 use Rattle.constriction_model.specs.Model.{StandForRows}
 use Rattle.constriction_model.specs.Rows.{Row}
 use Rattle.constriction_tables.specs.private.Partial.{HoldsTable}
-use Rattle.constriction_tables.proofs.by_model.table_walked.Given as goal
+use Rattle.constriction_tables.proofs.by_model.table_of_model.Given as goal
 
 abbrev pub invariant-rows : goal.invariant-rows
 invariant-rows g l =

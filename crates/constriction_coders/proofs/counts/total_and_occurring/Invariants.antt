@@ -1,7 +1,7 @@
 use Rattle.std.proofs.Common.{◌≡◌, ◌*◌, ◌≤◌, take}
 use Rattle.std.specs.Prelude.{sum}
 use Rattle.constriction_coders.specs.Counts.{occurring}
-use Rattle.constriction_coders.proofs.counts.tally.Given as goal
+use Rattle.constriction_coders.proofs.counts.total_and_occurring.Given as goal
 
 abbrev pub invariant-loop-count : goal.invariant-loop-count
 invariant-loop-count l = record {
