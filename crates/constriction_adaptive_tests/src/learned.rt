@@ -230,15 +230,3 @@ pub fn adaptive(rt: &impl Abort, alloc: Global) -> AdaptiveCategorical<4, 16>
         Err(_) => panic!(rt; "no predictor was made"),
     }
 }
-
-#[test]
-fn numbers_come_back_by_a_cdf_that_moves(rt: HostRuntime) {
-    let alloc = rt.alloc();
-    let text = numbers(&rt, alloc);
-    let mut encoding = adaptive(&rt, alloc);
-    let mut decoding = adaptive(&rt, alloc);
-    match queue::message_comes_back(alloc, &mut encoding, &mut decoding, &text) {
-        Ok(answers) => holds(&rt, &answers, &text),
-        Err(_) => panic!(rt; "no message came back"),
-    }
-}
