@@ -55,32 +55,46 @@ fn nothing_follows_blocks_by_contexts(rt: HostRuntime) {
     }
 }
 
-/// Asserts that contents whose words were changed by chance are refused as damaged, or that two
-/// calls unpack the same bytes.
-fn are_refused_or_unpacked(rt: &impl Abort, alloc: Global, number: u8, kind: Kind, content: &[u8]) {
+/// Asserts that contents that were changed by chance are refused as damaged, or that two calls
+/// unpack the same bytes. They say that they have at most 255 bytes, and lose a byte after each
+/// turn, in which each of their words changes.
+fn are_refused_or_unpacked(
+    rt: &impl Abort,
+    alloc: Global,
+    number: u8,
+    kind: Kind,
+    content: &[u8],
+    turns: usize,
+) {
     let mut changed = Vec::from_slice(alloc, content).expect(rt, "memory");
     let mut state = 1u32;
-    for place in 4..changed.len() {
-        state = state.wrapping_mul(1_664_525).wrapping_add(1_013_904_223);
-        changed[place] ^= state.to_be_bytes()[0];
-        let file = file_of(rt, alloc, SIGNATURE, &[(number, &changed)]);
-        let (result, written) = unpacked(alloc, u64::MAX, &file);
-        match unpack_block(alloc, kind, &changed) {
-            Ok(bytes) => {
-                same(rt, result, Ok(()));
-                holds(rt, &written, &bytes);
-            }
-            Err(error) => {
-                same(rt, error, PackError::Damaged);
-                same(rt, result, Err(error));
+    for _ in 0..turns {
+        for place in 4..changed.len() {
+            state = state.wrapping_mul(1_664_525).wrapping_add(1_013_904_223);
+            let [first, second, ..] = state.to_be_bytes();
+            changed[place] ^= first;
+            changed[0] = second;
+            let file = file_of(rt, alloc, SIGNATURE, &[(number, &changed)]);
+            let (result, written) = unpacked(alloc, u64::MAX, &file);
+            match unpack_block(alloc, kind, &changed) {
+                Ok(bytes) => {
+                    same(rt, result, Ok(()));
+                    holds(rt, &written, &bytes);
+                }
+                Err(error) => {
+                    same(rt, error, PackError::Damaged);
+                    same(rt, result, Err(error));
+                }
             }
         }
+        let _ = changed.pop();
     }
 }
 
 #[test]
-fn random_words_are_refused_or_unpacked(rt: HostRuntime) {
+fn random_contents_by_contexts_are_refused_or_unpacked(rt: HostRuntime) {
     for sample in &BY_CONTEXTS {
-        are_refused_or_unpacked(&rt, rt.alloc(), sample.0, sample.1, sample.2);
+        let turns = if sample.1 == Kind::FewContexts { 6 } else { 1 };
+        are_refused_or_unpacked(&rt, rt.alloc(), sample.0, sample.1, sample.2, turns);
     }
 }
