@@ -47,7 +47,7 @@ class Reading:
         if crate not in self.all.crates:
             self.kit.add(name or last)
         elif rest.startswith("declared."):
-            for it in [it for it in self.all.types if it.name == last][:1]:
+            if it := self.all.declared(crate, rest.removeprefix("declared."), name):
                 self.read(it)
         elif own := self.all.defined.get((self.all.passed_on.get((crate, rest), crate), rest, name)):
             self.read(own)

@@ -53,8 +53,8 @@ class Part:
     def __init__(self, file, kind, name, docs, lines, names, owner=None, around=()):
         self.file, self.kind, self.name, self.docs, self.lines, self.names, self.owner = file, kind, name, docs, lines, names, owner
         self.crate, self.depth = file.split("/")[1], indent_of(lines[0])
-        # below specs/, as `Rows` or `lemmas.Rows`
-        self.module = ".".join(file.removesuffix(".antt").split("/")[3:])
+        # below specs/, as `Rows` or `lemmas.Rows`, or below src/, as `plane.learned`
+        self.module = ".".join(os.path.splitext(file)[0].split("/")[3:])
         # of a definition the headers of the modules around it, of a trait or an impl its members
         self.around, self.members, self.owns, self.is_public = around, [], {name}, False
         starts = [at for at, it in enumerate(lines) if kind == "fn" and CLAUSE.match(it) and indent_of(it) == self.depth + 4]
@@ -71,7 +71,8 @@ class Part:
     @property
     def is_law(self):
         """Whether a ghost member is a law, which is proved of each impl, and no data, which says what the words of the trait mean there."""
-        return self.name.endswith("_law") or bool(re.match(r"\s*ghost \w+: \{\s*\(\w[\w ]* :", "\n".join(self.lines)))
+        # a law speaks of values, as `(x : Self)`, and data at most of types, as `(Symbol : Type 0)`
+        return self.name.endswith("_law") or bool(re.match(r"\s*ghost \w+: \{[^}]*\(\w[\w ]* : (?!Type 0\))", "\n".join(self.lines)))
 
 
 def definitions_of(file):
@@ -144,16 +145,26 @@ class Repository:
                     self.passed_names.update((of, name) for name in re.findall(r"\w+", inner))
         self.defined = {(it.crate, it.module, name): it for it in self.definitions for name in it.owns}
         self.traits = {it.name: it for it in self.items if it.kind == "trait"}
-        self.types = [it for it in self.items if it.kind in ("struct", "enum", "type")]
+        # with the constants, which definitions and clauses cite as they do types
+        self.types = [it for it in self.items if it.kind in ("struct", "enum", "type", "const")]
         self.impls = [it for it in self.items if it.kind == "impl"]
         self.parts = [*self.definitions, *(each for it in self.items for each in [it, *it.members])]
         self.files = {it.file: crate for crate in self.crates for it in self.parts if it.crate == crate}
 
     def type_named(self, name, near):
-        """Returns the type that an item means by this name: one of its file, or one that its file imports."""
+        """Returns the type or constant that an item means by this name: one of its file, or one that its file imports."""
         found = [it for it in self.types if it.name == name]
         is_imported = found and re.search(rf"\b{name}\b *[,;}}]", self.imports.get(near.file, ""))
-        return next((it for it in found if it.file == near.file or it.is_public and is_imported), None)
+        return next((it for it in found if it.file == near.file or is_imported and (it.is_public or it.kind == "const")), None)
+
+    def declared(self, crate, path, name):
+        """Returns the type or constant that antt imports by a path of a crate below `declared`: of that module, or of what it passes on."""
+        module, _, last = path.removesuffix(".TheVariants").rpartition(".")
+        last = name if last == "TheConstants" else last
+        found = [it for it in self.types if it.name == last]
+        own = [it for it in found if it.crate == crate]
+        passed = [it for it in found if (it.crate, last) in self.passed_names]
+        return next((it for it in own if it.module == module), next(iter(own + passed), None))
 
     def named(self, name):
         """Returns the public items of this name, as `answer_queries`, `laws::push` or `Cursor::pos`."""
