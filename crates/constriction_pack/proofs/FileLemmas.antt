@@ -140,14 +140,18 @@ whole (further {bytes = bytes} {frames = frames} block frame s n) f =
 -- with the last frame they make a file
 last_one : {format : Format} {before : ℕ} {bytes frames : List ℕ} (block frame : List ℕ)
     → Begins format (Some before) bytes frames → IsFrame format before block frame None
-    → IsPacked (bytes ++ block) (signature format ++ (frames ++ frame))
-last_one {format = format} {bytes = bytes} {frames = frames} block frame s n = record {
-  format = format;
-  frames = frames ++ frame;
-  framed = rw (append-nil (bytes ++ block), append-nil (frames ++ frame))
-      at (whole (further {after = None} block frame s n) ended);
-  laid_out = refl;
-}
+    → (file : IsPacked (bytes ++ block) (signature format ++ (frames ++ frame)))
+    × (file.format ≡ format)
+last_one {format = format} {bytes = bytes} {frames = frames} block frame s n = (
+  record {
+    format = format;
+    frames = frames ++ frame;
+    framed = rw (append-nil (bytes ++ block), append-nil (frames ++ frame))
+        at (whole (further {after = None} block frame s n) ended);
+    laid_out = refl;
+  },
+  refl,
+)
 
 -- what is left of frames
 left : {format : Format} {to : Option ℕ} {bytes frames : List ℕ} (all more : List ℕ)
@@ -234,10 +238,12 @@ pub under_way_done : {a c b d : Option (List ℕ)} {before : ℕ} {buffer : List
     → IsUnderWay a c before buffer b d → Consumes b b' read → buffer ++ read ≡ block ++ buffer'
     → IsFrame Cpk3 before block frame None → Appends d d' frame
     → length frame ≤ length block + 13 → buffer' ≡ []
-    → (bytes packed : List ℕ) × Consumes a b' bytes × Appends c d' packed × IsPacked bytes packed
+    → (bytes packed : List ℕ) × Consumes a b' bytes × Appends c d' packed
+    × (file : IsPacked bytes packed) × (file.format ≡ Cpk3)
     × (length packed ≤ length bytes + 24 + 16 * (length bytes / 2 ^ 20))
 under_way_done b' d' buffer' read block frame p q e n w short none =
     let bytes = p.bytes ++ block in
+    let file = last_one block frame p.begins n in
     let long = length-append p.bytes block in
     let count : p.count ≤ length bytes / 2 ^ 20 =
     le-div p.count (length bytes) (2 ^ 20) (omega arith) (omega (arith, p.long, long)) in (
@@ -246,7 +252,8 @@ under_way_done b' d' buffer' read block frame p q e n w short none =
       subst (Consumes _ _) (ap (λ xs. bytes ++ xs) none ∙ append-nil bytes)
           (moved _ _ _ p.bytes _ read block buffer' p.read q e),
       appended _ _ _ p.frames frame p.written w,
-      last_one block frame p.begins n,
+      file.0,
+      file.1,
       omega (arith, p.grown, short, count, long, length-append p.frames frame),
     )
 
@@ -339,7 +346,7 @@ read_done {format = format} b' d' block frame p n r w = (
   signature format ++ (p.frames ++ frame),
   consumed _ _ _ _ p.frames frame p.read r,
   Appends-trans _ _ _ p.bytes block p.written w,
-  last_one block frame p.begins n,
+  (last_one block frame p.begins n).0,
 )
 
 -- nothing was lost of a known file whose last frame was read

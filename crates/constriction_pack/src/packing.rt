@@ -135,7 +135,8 @@ pub fn pack<R: Read, W: Write>(
     ensures ok { OnOk result ((bytes packed : List ℕ)
         × Consumes (R.remaining reader.old) (R.remaining reader.new) bytes
         × IsAtEnd (R.remaining reader.new)
-        × Appends (W.contents writer.old) (W.contents writer.new) packed × IsPacked bytes packed
+        × Appends (W.contents writer.old) (W.contents writer.new) packed
+        × (file : IsPacked bytes packed) × (file.format ≡ Format.Cpk3)
         × (length packed ≤ length bytes + 24 + 16 * (length bytes / 2 ^ 20))) }
     ensures part { OnErr result ((written : List ℕ)
         × Appends (W.contents writer.old) (W.contents writer.new) written

@@ -78,8 +78,7 @@ fn read_next<R: Read>(
     }
 }
 
-/// Unpacks a packed file of at most `limit` bytes, to the reader's end. There is no limit if it is
-/// `u64::MAX`.
+/// Unpacks a packed file of at most `limit` bytes, to the reader's end.
 ///
 /// The writer is not flushed. Only what is no packed file is refused, as `NotPacked`, `Cut` or
 /// `Damaged`, and one that holds more than the limit, as `TooLong`. A block is written once its

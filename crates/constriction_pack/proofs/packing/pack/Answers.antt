@@ -12,7 +12,7 @@ returns-in-None-clause-ok g c =
     let end = c.in_ok-after.ensures.end c.in-None.is in
     let file = under_way_done _ _ _ one.0 one.1 one.2 c.loop.invariant one.3 one.4 one.5 one.6 one.7
     end.0 in
-    (file.0, file.1, file.2, end.1, file.3, file.4, file.5)
+    (file.0, file.1, file.2, end.1, file.3, file.4, file.5, file.6)
 
 pub loop-preserved : goal.loop-preserved
 loop-preserved g c =
