@@ -24,7 +24,7 @@ leaves OUTPUT.NUMBER.part. Standard output keeps what was written before a failu
 the file. No packed bytes go to a terminal. If standard error is one, a line there says after 8 MiB, and at most once a second,
 how much was read. Why a file is refused stands there too, in a line like one of these:
 
-  coder: FILE: The input is no packed file.      it begins otherwise, or has fewer than 8 bytes
+  coder: FILE: The input does not begin like a file that pack wrote.    another program wrote it, or its first bytes are damaged
   coder: FILE: The packed file was cut.          it ends too early
   coder: FILE: The packed file is damaged.       a checksum, a number or a block is wrong, or something follows the packed file
   coder: FILE: The packed file holds more than was allowed.    more than BYTES
@@ -64,8 +64,8 @@ source changed. It needs the command rt. Other calls start at once.
 Exit status:
   0   the file was packed, unpacked or found whole; or each line was answered, "bad line" and the like among the answers
   1   the input could not be read, or the output could not be written
-  2   refused: FILE is no packed file, was cut, is damaged or unpacks to more than BYTES; OUTPUT is there, or packed bytes
-      would go to a terminal; or the lines are longer than 1,048,576 bytes
+  2   refused: FILE does not begin like one that pack wrote, was cut, is damaged or unpacks to more than BYTES; OUTPUT is
+      there, or packed bytes would go to a terminal; or the lines are longer than 1,048,576 bytes
   3   memory was refused
   64  other arguments
   70  the program could not be built, or tried

@@ -20,7 +20,7 @@ pub enum PackError {
     #[error("Memory was refused.")]
     OutOfMemory,
     /// The input does not begin as a packed file does. Nothing was written.
-    #[error("The input is no packed file.")]
+    #[error("The input does not begin like a file that pack wrote.")]
     NotPacked,
     /// The input ends before the packed file does.
     #[error("The packed file was cut.")]
