@@ -23,8 +23,10 @@ module _ {T E W : Type 0} (whole : W → ℕ) (bits precision : ℕ) (old new : 
   refilled-rows (Err _) accepted is = tt
 
 module _ (bits precision : ℕ) (cdf weights : List ℕ) (t : IsCdfOfWeights bits precision weights cdf) where
+  -- the words of a cdf of known weights are a cdf
   pub given-cdf : IsCdf bits precision cdf
   given-cdf = (cdf-of bits precision cdf weights t.accepted t.words).0
 
+  -- its rows are those of the weights
   pub given-rows : contiguous_rows (weights_of precision (lefts_in cdf)) ≡ contiguous_rows weights
   given-rows = ap contiguous_rows (cdf-of bits precision cdf weights t.accepted t.words).1

@@ -135,6 +135,7 @@ module _ {A Z : Type 0} (v : Vec A Z) where
   items-are : (it : IntoIter A Z) → Becomes tt it → EachRunFrom into_iter_steps it (λ p. ItemsAre p v.items)
   items-are it became p seen is = subst (λ xs. ItemsAre p xs) (ap into_iter_items is ∙ became.0) (became.3 p seen)
 
+  -- what it gives has the numbers of its items
   pub gives-numbers : {B : Type 0} (value : A → B) → GivesList value Becomes into_iter_steps tt (map value v.items)
   gives-numbers value it became p seen is =
       let are = items-are it became p seen is in
@@ -144,5 +145,6 @@ module _ {A Z : Type 0} (v : Vec A Z) where
         λ k less. number-at value v.items k (p.at k) (omega (arith, are.0)) (are.6 k),
       )
 
+  -- what it gives are its items
   pub gives-items : GivesList (λ x. x) Becomes into_iter_steps tt v.items
   gives-items = subst (λ xs. GivesList (λ x. x) Becomes into_iter_steps tt xs) (map-id v.items) (gives-numbers (λ x. x))

@@ -33,6 +33,7 @@ module _ {A B C : Type 0} (Stands : A → A → Type 0) (eq : A → A → Bool) 
 
   -- from a queue
   module _ {S E : Type 0} (gives : S → Result (Option ℕ) E → S → Type 0) (tells : S → List ℕ → Type 0) where
+    -- the three are read in the order in which they were written, from the words that the encoder leaves
     pub three-read : RangeSymbolsComeBack Stands eq entry rows gives tells precision
         → RangeSymbolsComeBack Stands₂ eq₂ entry₂ rows₂ gives tells precision₂
         → RangeSymbolsComeBack Stands₃ eq₃ entry₃ rows₃ gives tells precision₃ → SealedWordsTell

@@ -62,9 +62,11 @@ module _ (bits precision : ℕ) (lefts : List ℕ) where
 
   -- so is the next word
   module _ {Word : Type 0} (whole : Word → ℕ) (cdf : List Word) (e : map whole cdf ≡ with_total bits precision lefts) where
+    -- there is one word more than left cumulatives
     pub among-long : length cdf ≡ length lefts + 1
     among-long = sym (length-map cdf whole) ∙ ap length e ∙ length-append lefts (total_of bits precision ∷ [])
 
+    -- the word after that of a row's left cumulative is the end of the row
     pub among-end : (i : ℕ) (x : Word) → i < length lefts → x ≡ get_or cdf (i + 1) x → whole x ≡ end_at bits precision lefts i
     among-end i x h is =
         sym (read-whole whole cdf (i + 1) x (omega (arith, among-long)) is) ∙ ap (λ ns. get_or ns (i + 1) 0) e ∙ end-in i h
@@ -121,6 +123,7 @@ entry_ending-within i n r h e = grind (arith, nat_tests)
 -- the ends of rows, by the two end words
 module _ {Word : Type 0} (whole : Word → ℕ) (bits precision : ℕ) (lefts : List ℕ) (end_words : List Word)
     (b : AreEndWords bits precision lefts (map whole end_words)) where
+  -- they are two
   pub end_words-two : length end_words ≡ 2
   end_words-two = sym (length-map end_words whole) ∙ b.two
 

@@ -19,6 +19,7 @@ use Rattle.constriction_model.specs.declared.error.ModelError.TheVariants.{Inval
 pub accepted≢refused : {T : Type 0} (x : T) (error : ModelError) → Ok x ≡ Err error → ⊥
 accepted≢refused x error e = cc
 
+-- no result is refused in two ways
 pub table≢memory : {T : Type 0} (r : Result T ModelError) → r ≡ Err InvalidTable → r ≡ Err OutOfMemory → ⊥
 table≢memory r table memory = cc
 

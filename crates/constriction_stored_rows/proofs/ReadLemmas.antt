@@ -62,6 +62,7 @@ never-any (x ∷ xs) = never-any xs
 
 -- ---- one more row
 
+-- one more symbol and weight are one more row, which begins where the rows before it end
 pub rows_from-push : {S : Type 0} (l : ℕ) (ss : List S) (ws : List ℕ) (s : S) (w : ℕ) → length ss ≡ length ws
     → rows_from l (ss ++ s ∷ []) (ws ++ w ∷ []) ≡ rows_from l ss ws ++ record { symbol = s; left = l + sum ws; weight = w } ∷ []
 rows_from-push l [] [] s w e = ap (λ n. record { symbol = s; left = n; weight = w } ∷ []) (let is : l ≡ l + 0 = omega arith in is)

@@ -20,9 +20,11 @@ one_pushed none all x is pushed = pushed ∙ ap (λ xs. xs ++ x ∷ []) is
 
 -- a reader read the copied words of a slice
 module _ {A : Type 0} (it : Copied (Iter A)) (all : List A) (e : iter_rest (copied_source it) ≡ all) (Good : List A → Type 0) where
+  -- if all that it read is good, the slice is
   pub slice-good : GaveGood (copies fronts) it Good → Good all
   slice-good g = subst Good (Copied-Drains it g.0 g.1 ∙ e) g.2
 
+  -- if no list that begins with what it read is good, the slice is not
   pub slice-bad : GaveBad (copies fronts) it Good → ¬ (Good all)
   slice-bad bad good = elim bad [
     | inl whole ↦ whole.2 (subst Good (sym (Copied-Drains it whole.0 whole.1 ∙ e)) good)
@@ -38,13 +40,16 @@ module _ (bits precision : ℕ) where
       let b : IsAccepted bits precision (before ++ last ∷ []) = subst (IsAccepted bits precision) e a in
       omega (arith, b.tiles.total, sum_by_push (λ x. x) before last, All-contains (λ w. 0 < w) _ last b.tiles.positive (Contains-push before last))
 
+  -- an inferred weight is what the given ones leave
   pub before-inferred : (ws : List ℕ) (infer : Bool) → infer ≡ true → completed precision infer ws ≡ ws ++ (2 ^ precision - sum ws) ∷ []
   before-inferred ws infer e = rw e refl
 
+  -- if none is inferred, the last weight is the last word given
   pub before-given : {W : Type 0} (whole : W → ℕ) (ws before : List W) (last : W) (infer : Bool) → infer ≡ false → ws ≡ before ++ last ∷ []
       → completed precision infer (map whole ws) ≡ map whole before ++ whole last ∷ []
   before-given whole ws before last infer e split = rw (e, split) (map-append whole before (last ∷ []))
 
+  -- no weights at all are not accepted, unless one is inferred
   pub before-none : (ws : List ℕ) (infer : Bool) → infer ≡ false → length ws ≡ 0 → ¬ (IsAccepted bits precision (completed precision infer ws))
   before-none [] infer e long = rw e (λ a. omega (arith, a.tiles.total, pow_pos precision))
   before-none (w ∷ ws) infer e long = absurd (omega arith)

@@ -63,6 +63,7 @@ module _ (precision slot_bits q : ℕ) (lefts : List ℕ) (up : IsStrictlyIncrea
     ];
   }
 
+  -- a comparison with the last row and one with the middle one tell how many rows before the last the quantile's row is
   pub row_of_three : (middle a b : ℕ) → first ≤ last → last ≤ first + 2 → middle ≡ first + (last - first) / 2
       → (get_or lefts last 0 ≤ q → a ≡ 0) → (q < get_or lefts last 0 → a ≡ 1)
       → (get_or lefts middle 0 ≤ q → b ≡ 0) → (q < get_or lefts middle 0 → b ≡ 1)

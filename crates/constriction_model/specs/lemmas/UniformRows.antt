@@ -17,10 +17,11 @@ use Rattle.constriction_model.specs.lemmas.Rows.{indices, length-rows_from, weig
 use Rattle.constriction_model.specs.lemmas.Rows.{rows_from-at, contiguous-at, contiguous-past}
 use Rattle.constriction_model.specs.Rows.{Row, contiguous_rows, uniform_weights, uniform_rows, RowsTile, IsRowOf, entry_of}
 
--- in a uniform model whose last symbol is `last`, the weight of each other symbol, and the weight that they leave for the last one
+-- in a uniform model whose last symbol is `last`, the weight of each other symbol
 abbrev pub bin_of : ℕ → ℕ → ℕ
 bin_of precision last = 2 ^ precision / (last + 1)
 
+-- the weight that they leave for the last one
 abbrev pub rest_of : ℕ → ℕ → ℕ
 rest_of precision last = 2 ^ precision - last * bin_of precision last
 

@@ -68,6 +68,7 @@ module _ {Symbol Word Weight Refusal : Type 0} (Stands : Symbol → Symbol → T
       )
   unrefused-rows (Err y ∷ is) (r ∷ rs) h (x ∷ xs) e = absurd (cc)
 
+  -- items that stand for rows one by one are what a law of models asks of a symbol table
   pub are-rows : (items : List (Result (Symbol × Word × Weight) Refusal)) (rows : List (Row Symbol))
       → AllZip (StandsFor Stands MayRefuse whole base) items rows → AreRows Stands MayRefuse whole base items rows
   are-rows items rows h = record {

@@ -13,6 +13,7 @@ pub rows-many : (precision : ℕ) (lefts : List ℕ) → length (contiguous_rows
 rows-many precision lefts = omega (arith, length-rows (weights_of precision lefts), length-gaps (2 ^ precision) lefts)
 
 module _ (bits precision : ℕ) (lefts : List ℕ) (t : IsStored bits precision lefts) where
+  -- the symbols of the rows: their indices
   abbrev pub symbols : List ℕ
   symbols = indices (length (weights_of precision lefts))
 
