@@ -24,7 +24,8 @@ module _ {P State : Type 0} (state : P → State) (xs : List P) (i : ℕ) (x y :
 
   -- by one that learned a symbol, and the context learned it
   pub states-learned : {Context Symbol : Type 0} (next : State → Symbol → State) (number : Context → ℕ) (after : Context → Symbol → Context)
-      (c d : Context) (symbol : Symbol) (n : ℕ) → i ≡ number c → n ≡ length xs → i < n → state y ≡ next (state x) symbol → d ≡ after c symbol
+      (c d : Context) (symbol : Symbol) (n : ℕ) → i ≡ number c → n ≡ length xs → i < n → state y ≡ next (state x) symbol
+      → d ≡ after c symbol
       → context_state (map state (set xs i y)) d ≡ learned_in next number after (context_state (map state xs) c) symbol
   states-learned next number after c d symbol n is many below learned moved =
       let found = state-found xs i x at number c n is many below state in

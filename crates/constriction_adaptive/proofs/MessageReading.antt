@@ -102,7 +102,8 @@ module _ {State : Type 0} (rows : State → List (Row Bool)) (next : State → B
       → last ≡ whole → ⊥
   leaves-whole [] state last e some all = absurd (omega (arith, some))
   leaves-whole (x ∷ xs) state last e some all =
-      some-symbol (entry_at (predicted_entry rows beq)) 16 (omega arith) (state, x) (placed next (next state x) xs) whole last (omega arith) e all
+      some-symbol (entry_at (predicted_entry rows beq)) 16 (omega arith) (state, x) (placed next (next state x) xs) whole last (omega arith)
+      e all
 
   -- each state that bits were read in has rows that tile
   pub tiles-of : (xs : List Bool) (state : State) (old new : Held (List ℕ)) → InTurn (IsBitRead rows) (placed next state xs) old new
@@ -138,8 +139,8 @@ module _ {State : Type 0} (rows : State → List (Row Bool)) (next : State → B
         range-back (placed next) (λ state symbol. (state, symbol)) next (λ state. refl) (λ state x xs. refl)
         (entry_at (predicted_entry rows beq)) 16 _ (next-same next) (IsBitRead rows) tells (omega arith)
         (λ state symbol answer old new words now later fit e lies here d.
-        range-symbol-back (λ s t. t ≡ s) beq (predicted_entry rows beq state) (rows state) TakesWord tells 32 16 d.tile d.alike tells-law symbol
-        answer old new words now later fit
+        range-symbol-back (λ s t. t ≡ s) beq (predicted_entry rows beq state) (rows state) TakesWord tells 32 16 d.tile d.alike tells-law
+        symbol answer old new words now later fit
         (record { left = e.left; weight = e.weight; known = e.known; within = e.within; next = e.next }) lies here d.step) first in
         let here = begins-whole TakesWord tells tells-law (words ++ more) read.start.held.range read.start.held.offset read.start.source
         read.begun (words ++ more) refl in

@@ -112,17 +112,19 @@ module _ {L R Context A B : Type 0} (left_rows : L → List (Row A)) (right_rows
   -- the rows where left symbols are next
   pub side-left : (s : PairState L R Context) → s.is_right ≡ false
       → rows_of_side left_rows right_rows number s ≡ with_symbols Left (left_rows s.left)
-  side-left s h = ap (λ b. if b then with_symbols Right (rows_by_context right_rows number s.right) else with_symbols Left (left_rows s.left)) h
+  side-left s h =
+      ap (λ b. if b then with_symbols Right (rows_by_context right_rows number s.right) else with_symbols Left (left_rows s.left)) h
 
   -- the rows where right symbols are next
   pub side-right : (s : PairState L R Context) → s.is_right ≡ true
       → rows_of_side left_rows right_rows number s ≡ with_symbols Right (rows_by_context right_rows number s.right)
-  side-right s h = ap (λ b. if b then with_symbols Right (rows_by_context right_rows number s.right) else with_symbols Left (left_rows s.left)) h
+  side-right s h =
+      ap (λ b. if b then with_symbols Right (rows_by_context right_rows number s.right) else with_symbols Left (left_rows s.left)) h
 
 -- a right symbol was learned
 pub right-learned : {L R Context A B : Type 0} (next_left : L → A → L) (next_right : R → B → R) (number : Context → ℕ)
-    (after : Context → A → Context) (s : PairState L R Context) (symbol : Either A B) (b : B) (right : ByContexts R Context) → symbol ≡ Right b
-    → s.is_right ≡ true → right ≡ learned_in next_right number (λ context _. context) s.right b
+    (after : Context → A → Context) (s : PairState L R Context) (symbol : Either A B) (b : B) (right : ByContexts R Context)
+    → symbol ≡ Right b → s.is_right ≡ true → right ≡ learned_in next_right number (λ context _. context) s.right b
     → pair_state s.left right false ≡ after_side next_left next_right number after s symbol
 right-learned next_left next_right number after s symbol b right is h learned =
     ap (λ r. pair_state s.left r false) learned

@@ -54,7 +54,8 @@ module _ {State : Type 0} (rows : State → List (Row Bool)) (next : State → B
         to = quantile-to unit old.held.offset row.left row.weight d.step.holds.from d.step.holds.to;
       }
 
-  step-once : (state : State) (x y : Bool) (old a b : Held (List ℕ)) → IsBitRead rows (state, x) old a → IsBitRead rows (state, y) old b → (x ≡ y) × (a ≡ b)
+  step-once : (state : State) (x y : Bool) (old a b : Held (List ℕ)) → IsBitRead rows (state, x) old a → IsBitRead rows (state, y) old b
+      → (x ≡ y) × (a ≡ b)
   step-once state x y old a b p q =
       let row : p.step.row ≡ q.step.row =
       one-row 32 16 (rows state) (old.held.offset / unit_of 16 old.held.range) p.step.row q.step.row p.tile (row-at state x old a p)
@@ -105,7 +106,8 @@ module _ {State : Type 0} (rows : State → List (Row Bool)) (next : State → B
         rest.1 ∙ ap (λ (zs : List Bool). all_bits width a ++ zs) none ∙ append-nil (all_bits width a) in
         numbers-once width a b p.small q.small long (sym bits)
 
-    not-above : (zs : List Bool) (state : State) (at end : Held (List ℕ)) → InTurn (IsBitRead rows) (placed next state zs) at end → 0 < length zs
+    not-above : (zs : List Bool) (state : State) (at end : Held (List ℕ)) → InTurn (IsBitRead rows) (placed next state zs) at end
+        → 0 < length zs
         → IsAboveAll 16 at.held → ⊥
     not-above [] state at end d some above = absurd (omega (arith, some))
     not-above (z ∷ zs) state at end d some above =

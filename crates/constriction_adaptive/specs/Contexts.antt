@@ -21,8 +21,8 @@ abbrev pub history_after : (modulus history node : ℕ) → Bool → ℕ
 history_after modulus history node bit =
     if nat_lt (grown node bit) 256 then history else (history * 256 + (grown node bit - 256)) % modulus
 
--- What a predictor knows: the weights in the slots of all contexts, and in which context the next bit is: which bytes came before, and which
--- bits of the byte.
+-- What a predictor knows: the weights in the slots of all contexts, and in which context the next bit is: which bytes came before, and
+-- which bits of the byte.
 pub record Contexts : Type 0 where
   pub weights : List ℕ
   pub history : ℕ

@@ -1,8 +1,8 @@
 -- Some of the symbols that came last, as the digits of a number.
 use Rattle.std.specs.Prelude.{ℕ, ◌+◌, ◌-◌, ◌*◌, ◌%◌, ◌^◌, ◌<◌, min}
 
--- How many symbols there are, of how many digits without the oldest one the numbers are, and the number of those that came last: the last one is
--- its lowest digit.
+-- How many symbols there are, of how many digits without the oldest one the numbers are, and the number of those that came last: the last
+-- one is its lowest digit.
 pub record Recent : Type 0 where
   pub symbols : ℕ
   pub older : ℕ

@@ -18,7 +18,8 @@ pub record MixerState : Type 0 where
 
 -- the same, from its parts
 abbrev pub mixer_state : (contexts : List ℕ) (groups : ℕ) (slots : List ℕ) (weights : List (List ℕ)) (past : PastState) → MixerState
-mixer_state contexts groups slots weights past = record { contexts = contexts; groups = groups; slots = slots; weights = weights; past = past }
+mixer_state contexts groups slots weights past =
+    record { contexts = contexts; groups = groups; slots = slots; weights = weights; past = past }
 
 -- the first slot of each context
 abbrev pub places_in : (groups : ℕ) → PastState → (contexts : List ℕ) → List ℕ

@@ -62,7 +62,8 @@ module _ {State Symbol C : Type 0} (next : State → Symbol → State) (Step : S
     pub learned : last ≡ fold next first symbols
 
   -- the symbols before one were coded and learned, and that one was neither
-  pub record AdaptiveEncodingStops (Fault : State × Symbol → C → Type 0) (symbols : List Symbol) (first : State) (old : C) (last : State) (new : C)
+  pub record AdaptiveEncodingStops (Fault : State × Symbol → C → Type 0) (symbols : List Symbol) (first : State) (old : C) (last : State)
+      (new : C)
       : Type 0 where
     pub done : List Symbol
     pub symbol : Symbol

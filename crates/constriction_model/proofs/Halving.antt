@@ -94,7 +94,8 @@ halved_step n left e more = rw e (record { fewer = omega arith; half = omega ari
 -- the search of a probe
 module _ {P Word : Type 0} (g : Ghosts P Word) (rows : P) (q : Word) where
   -- a question whose answers both leave `left` of `size` rows
-  module _ (first size left at : ℕ) (new : P) (may : MaySearch g rows q first size) (h : IsHalved size left) (at_is : at ≡ first + (size - left))
+  module _ (first size left at : ℕ) (new : P) (may : MaySearch g rows q first size) (h : IsHalved size left)
+      (at_is : at ≡ first + (size - left))
       (same : g.cumulatives new ≡ g.cumulatives rows) (counted : g.questions new ≡ g.questions rows + 1) where
     asked : (next : ℕ) → LiesAmong (g.cumulatives rows) (g.number q) next left → Narrows g rows q size new next left
     asked next n = record { narrowed = rw same n; same = same; counted = omega (arith, counted, h.digit) }

@@ -97,8 +97,9 @@ end_words-many bits precision lefts first none many range difference is =
     }
 
 -- the left cumulatives of the entries so far, and of one more
-pub pushed-left : {Word Entry : Type 0} (whole : Word → ℕ) (left_of : Entry → ℕ) (before : List ℕ) (all more : List Word) (entries : List Entry)
-    (i : ℕ) (w : Word) (x : Entry) → map whole all ≡ before ++ map left_of (take i entries) → more ≡ all ++ w ∷ [] → i < length entries
+pub pushed-left : {Word Entry : Type 0} (whole : Word → ℕ) (left_of : Entry → ℕ) (before : List ℕ) (all more : List Word)
+    (entries : List Entry) (i : ℕ) (w : Word) (x : Entry) → map whole all ≡ before ++ map left_of (take i entries)
+    → more ≡ all ++ w ∷ [] → i < length entries
     → x ≡ get_or entries i x → whole w ≡ left_of x → map whole more ≡ before ++ map left_of (take (i + 1) entries)
 pushed-left whole left_of before all more entries i w x so_far pushed h is reads =
     ap (map whole) pushed ∙ map_push whole all w ∙ ap (λ ns. ns ++ whole w ∷ []) so_far
@@ -107,8 +108,9 @@ pushed-left whole left_of before all more entries i w x so_far pushed h is reads
     ∙ ap (λ ns. before ++ ns) (sym (map_more left_of entries i x h))
 
 -- the left cumulatives of all entries, and then the total
-pub pushed-total : {Word Entry : Type 0} (whole : Word → ℕ) (left_of : Entry → ℕ) (bits precision : ℕ) (before : List ℕ) (all more : List Word)
-    (entries : List Entry) (i : ℕ) (w : Word) → map whole all ≡ before ++ map left_of (take i entries) → i ≡ length entries → more ≡ all ++ w ∷ []
+pub pushed-total : {Word Entry : Type 0} (whole : Word → ℕ) (left_of : Entry → ℕ) (bits precision : ℕ) (before : List ℕ)
+    (all more : List Word) (entries : List Entry) (i : ℕ) (w : Word) → map whole all ≡ before ++ map left_of (take i entries)
+    → i ≡ length entries → more ≡ all ++ w ∷ []
     → whole w ≡ total_of bits precision → map whole more ≡ before ++ with_total bits precision (map left_of entries)
 pushed-total whole left_of bits precision before all more entries i w so_far end pushed is =
     ap (map whole) pushed ∙ map_push whole all w

@@ -78,8 +78,8 @@ module _ (bits precision : ℕ) where
         elim why [ inl none ↦ omega (arith, all, row.positive, here, none) | inr much ↦ omega (arith, all, row.fits, here, much) ])
 
     -- numbers whose last weight is a word store rows
-    pub stored-end : (weights : List ℕ) (room : ℕ) → 2 ^ precision ≤ 2 ^ bits → AreBegun (first ∷ take i rest) weights before → i ≡ length rest
-        → before + room + 1 ≡ 2 ^ precision → room + 1 < 2 ^ bits → IsStored bits precision numbers
+    pub stored-end : (weights : List ℕ) (room : ℕ) → 2 ^ precision ≤ 2 ^ bits → AreBegun (first ∷ take i rest) weights before
+        → i ≡ length rest → before + room + 1 ≡ 2 ^ precision → room + 1 < 2 ^ bits → IsStored bits precision numbers
     stored-end weights room wide t end left fits =
         rw split (begun-stored (first ∷ rest) weights before room wide
         (let all : take i rest ≡ rest = take_all i rest (omega arith) in rw all at t) left fits)

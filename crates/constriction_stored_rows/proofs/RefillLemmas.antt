@@ -35,10 +35,16 @@ module _ {A : Type 0} (it : Copied (Iter A)) (all : List A) (e : iter_rest (copi
 
 module _ (bits precision : ℕ) where
   -- the weights before the last one of accepted weights leave quantiles
-  pub before-left : (all before : List ℕ) (last : ℕ) → IsAccepted bits precision all → all ≡ before ++ last ∷ [] → sum before < 2 ^ precision
+  pub before-left : (all before : List ℕ) (last : ℕ) → IsAccepted bits precision all → all ≡ before ++ last ∷ []
+      → sum before < 2 ^ precision
   before-left all before last a e =
       let b : IsAccepted bits precision (before ++ last ∷ []) = subst (IsAccepted bits precision) e a in
-      omega (arith, b.tiles.total, sum_by_push (λ x. x) before last, All-contains (λ w. 0 < w) _ last b.tiles.positive (Contains-push before last))
+      omega (
+        arith,
+        b.tiles.total,
+        sum_by_push (λ x. x) before last,
+        All-contains (λ w. 0 < w) _ last b.tiles.positive (Contains-push before last),
+      )
 
   -- an inferred weight is what the given ones leave
   pub before-inferred : (ws : List ℕ) (infer : Bool) → infer ≡ true → completed precision infer ws ≡ ws ++ (2 ^ precision - sum ws) ∷ []
@@ -50,7 +56,8 @@ module _ (bits precision : ℕ) where
   before-given whole ws before last infer e split = rw (e, split) (map-append whole before (last ∷ []))
 
   -- no weights at all are not accepted, unless one is inferred
-  pub before-none : (ws : List ℕ) (infer : Bool) → infer ≡ false → length ws ≡ 0 → ¬ (IsAccepted bits precision (completed precision infer ws))
+  pub before-none : (ws : List ℕ) (infer : Bool) → infer ≡ false → length ws ≡ 0
+      → ¬ (IsAccepted bits precision (completed precision infer ws))
   before-none [] infer e long = rw e (λ a. omega (arith, a.tiles.total, pow_pos precision))
   before-none (w ∷ ws) infer e long = absurd (omega arith)
 

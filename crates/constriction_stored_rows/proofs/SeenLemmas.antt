@@ -17,7 +17,8 @@ or-cond true false = refl
 or-cond false true = refl
 or-cond false false = refl
 
-module _ {Word Symbol Key : Type 0} (eq : Symbol → Symbol → Bool) (laws : IsEquivalence eq) (now : Key → Symbol) (entries : List (Word × Symbol)) where
+module _ {Word Symbol Key : Type 0} (eq : Symbol → Symbol → Bool) (laws : IsEquivalence eq) (now : Key → Symbol)
+    (entries : List (Word × Symbol)) where
   -- the first n symbols are in the set, and no two of them are equal
   pub record AreSeen (has : Key → Bool) (n : ℕ) : Type 0 where
     pub holds : (q : Key) → has q ≡ list_any (eq (now q)) (map (λ x. x.1) (take n entries))

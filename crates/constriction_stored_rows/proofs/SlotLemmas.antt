@@ -106,7 +106,8 @@ module _ {W E : Type 0} (whole : W → ℕ) (left_of : E → ℕ) (entries : Lis
       → (i < length (map whole table) → IsLastAtMost (map left_of entries) q (get_or (map whole table) i 0))
       → IsLastAtMost (map left_of entries) q (whole w)
   word-at q i w h is found =
-      subst (λ k. IsLastAtMost (map left_of entries) q k) (read-whole whole table i w h is) (found (omega (arith, h, length-map table whole)))
+      subst (λ k. IsLastAtMost (map left_of entries) q k) (read-whole whole table i w h is)
+      (found (omega (arith, h, length-map table whole)))
 
   row-within : (q : ℕ) (w : W) → IsLastAtMost (map left_of entries) q (whole w) → whole w < length entries
   row-within q w l = omega (arith, l.in_bounds, length-map entries left_of)

@@ -48,13 +48,15 @@ bits-more count n b h =
     let half : (2 * n + b) / 2 ≡ n = omega arith in
     let low : (2 * n + b) % 2 ≡ b = omega arith in
     let one : count + 1 ≡ suc count = omega arith in
-    ap (λ k. bits k (2 * n + b)) one ∙ bits-suc count (2 * n + b) ∙ ap (λ k. bits count k ++ (2 * n + b) % 2 ∷ []) half ∙ ap (λ k. bits count n ++ k ∷ []) low
+    ap (λ k. bits k (2 * n + b)) one ∙ bits-suc count (2 * n + b) ∙ ap (λ k. bits count k ++ (2 * n + b) % 2 ∷ []) half
+    ∙ ap (λ k. bits count n ++ k ∷ []) low
 
 -- the highest bit, and the others
 pub bits-first : (count n : ℕ) → bits (suc count) n ≡ n / 2 ^ count % 2 ∷ bits count n
 bits-first zero n =
     let same : n / 2 ^ 0 ≡ n = omega arith in
-    bits-suc 0 n ∙ ap (λ xs. xs ++ n % 2 ∷ []) (no_bits (n / 2)) ∙ ap (λ k. k % 2 ∷ []) (sym same) ∙ ap (λ xs. n / 2 ^ 0 % 2 ∷ xs) (sym (no_bits n))
+    bits-suc 0 n ∙ ap (λ xs. xs ++ n % 2 ∷ []) (no_bits (n / 2)) ∙ ap (λ k. k % 2 ∷ []) (sym same)
+    ∙ ap (λ xs. n / 2 ^ 0 % 2 ∷ xs) (sym (no_bits n))
 bits-first (suc count) n =
     let shifted : n / 2 / 2 ^ count ≡ n / 2 ^ suc count = shr-shr n 1 count ∙ ap (λ k. n / 2 ^ k) (omega arith) in
     bits-suc (suc count) n ∙ ap (λ xs. xs ++ n % 2 ∷ []) (bits-first count (n / 2))
@@ -84,7 +86,8 @@ bits-shifted count n zero =
 bits-shifted count n (suc zeros) =
     let twice : n * 2 ^ suc zeros ≡ 2 * (n * 2 ^ zeros) + 0 = ap (λ k. n * k) (pow-suc 2 zeros) ∙ omega arith in
     let one : count + suc zeros ≡ count + zeros + 1 = omega arith in
-    ap (λ k. bits k (n * 2 ^ suc zeros)) one ∙ ap (bits (count + zeros + 1)) twice ∙ bits-more (count + zeros) (n * 2 ^ zeros) 0 (omega arith)
+    ap (λ k. bits k (n * 2 ^ suc zeros)) one ∙ ap (bits (count + zeros + 1)) twice
+    ∙ bits-more (count + zeros) (n * 2 ^ zeros) 0 (omega arith)
     ∙ ap (λ xs. xs ++ 0 ∷ []) (bits-shifted count n zeros) ∙ append_assoc (bits count n) (replicate zeros 0) (0 ∷ [])
     ∙ ap (λ xs. bits count n ++ xs) (replicate_more zeros 0 ∙ ap (λ k. replicate k 0) (add-one zeros))
 
@@ -144,4 +147,5 @@ same_bytes (x ∷ xs) (y ∷ ys) fit fit' e =
     let x-fits : x < 256 = All-head (λ b. b < 256) x xs fit in
     let y-fits : y < 256 = All-head (λ b. b < 256) y ys fit' in
     let first : x ≡ y = same_bits 8 x y (omega arith) both.0 in
-    ap (λ k. k ∷ xs) first ∙ ap (λ k. y ∷ k) (same_bytes xs ys (All-tail (λ b. b < 256) x xs fit) (All-tail (λ b. b < 256) y ys fit') both.1)
+    ap (λ k. k ∷ xs) first
+    ∙ ap (λ k. y ∷ k) (same_bytes xs ys (All-tail (λ b. b < 256) x xs fit) (All-tail (λ b. b < 256) y ys fit') both.1)

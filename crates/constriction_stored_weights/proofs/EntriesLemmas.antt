@@ -53,7 +53,9 @@ run_after whole tail first e h entry =
     elim (cases_lt 0 entry.run) [
       | inl some ↦
           let zero_fits : 0 < 2 ^ 15 = omega arith in
-          ((same_number first 0 tail _ none_fits zero_fits (sym e ∙ entry.bits_are ∙ entry_with_run entry.run entry.weight entry.rest some)).1, some)
+          let same = same_number first 0 tail _ none_fits zero_fits
+          (sym e ∙ entry.bits_are ∙ entry_with_run entry.run entry.weight entry.rest some) in
+          (same.1, some)
       | inr none ↦
           let same = same_number first entry.weight tail entry.rest none_fits entry.weight_fits
           (sym e ∙ entry.bits_are ∙ entry_with_no_run entry.run entry.weight entry.rest none) in
@@ -68,7 +70,8 @@ pub weight_first : (whole tail : List ℕ) (first : ℕ) → first < 2 ^ 15 → 
 weight_first whole tail first fits e h entry =
     elim (cases_lt 0 entry.run) [
       | inl some ↦
-          let same = same_number first 0 tail _ fits (omega arith) (sym e ∙ entry.bits_are ∙ entry_with_run entry.run entry.weight entry.rest some) in
+          let same = same_number first 0 tail _ fits (omega arith)
+          (sym e ∙ entry.bits_are ∙ entry_with_run entry.run entry.weight entry.rest some) in
           absurd (omega (arith, same.0))
       | inr none ↦
           let same = same_number first entry.weight tail entry.rest fits entry.weight_fits
@@ -83,7 +86,8 @@ pub same_entry : (whole rest : List ℕ) (run weight : ℕ) → run < 2 ^ 15 →
 same_entry whole rest run weight run_fits some weight_fits e entry =
     elim (cases_lt 0 run) [
       | inl above ↦
-          let after = run_after whole (number_bits run ++ (number_bits weight ++ rest)) 0 (e ∙ entry_with_run run weight rest above) (omega arith) entry in
+          let after = run_after whole (number_bits run ++ (number_bits weight ++ rest)) 0 (e ∙ entry_with_run run weight rest above)
+          (omega arith) entry in
           let runs = same_number run entry.run (number_bits weight ++ rest) _ run_fits entry.run_fits after.0 in
           let weights = same_number weight entry.weight rest entry.rest weight_fits entry.weight_fits runs.1 in
           (runs.0, weights.0, weights.1)
@@ -129,7 +133,8 @@ ends_in_weight given rest last first run e h f some cut =
     let none : first ≡ 0 = omega arith in
     let front = number_bits 0 ++ number_bits run in
     let given_is : given ≡ front ++ last =
-    e ∙ ap (λ k. number_bits k ++ rest) none ∙ ap (λ xs. number_bits 0 ++ xs) f ∙ sym (append_assoc (number_bits 0) (number_bits run) last) in
+    e ∙ ap (λ k. number_bits k ++ rest) none ∙ ap (λ xs. number_bits 0 ++ xs) f
+    ∙ sym (append_assoc (number_bits 0) (number_bits run) last) in
     record {
       run = run;
       weight = cut.number;
@@ -167,7 +172,8 @@ weight_bits-some run (suc less) rest h = refl
 pub weight_bits-entry : (run weight : ℕ) (rest : List ℕ) → 0 < weight
     → weight_bits 0 (replicate run 0 ++ weight ∷ rest) ≡ entry_bits run weight ++ weight_bits 0 rest
 weight_bits-entry run weight rest h =
-    weight_bits-replicate 0 run (weight ∷ rest) ∙ ap (λ k. weight_bits k (weight ∷ rest)) (zero-add run) ∙ weight_bits-some run weight rest h
+    weight_bits-replicate 0 run (weight ∷ rest) ∙ ap (λ k. weight_bits k (weight ∷ rest)) (zero-add run)
+    ∙ weight_bits-some run weight rest h
 
 -- the first weight above 0
 pub record FirstWeight (weights : List ℕ) : Type 0 where
@@ -181,7 +187,13 @@ pub first_weight : (weights : List ℕ) → 0 < sum weights → FirstWeight weig
 first_weight [] h = absurd (omega arith)
 first_weight (zero ∷ weights) h =
     let first = first_weight weights (omega (arith, sum_by-cons (λ x. x) 0 weights)) in
-    record { run = suc first.run; weight = first.weight; rest = first.rest; some = first.some; weights_are = ap (λ xs. 0 ∷ xs) first.weights_are }
+    record {
+      run = suc first.run;
+      weight = first.weight;
+      rest = first.rest;
+      some = first.some;
+      weights_are = ap (λ xs. 0 ∷ xs) first.weights_are;
+    }
 first_weight (suc less ∷ weights) h = record { run = 0; weight = suc less; rest = weights; some = omega arith; weights_are = refl }
 
 pub all_zeros : (weights : List ℕ) → sum weights ≡ 0 → weights ≡ replicate (length weights) 0
@@ -191,7 +203,12 @@ all_zeros (suc less ∷ weights) h = absurd (omega (arith, sum_by-cons (λ x. x)
 
 pub sum-run : (run weight : ℕ) (rest : List ℕ) → sum (replicate run 0 ++ weight ∷ rest) ≡ weight + sum rest
 sum-run run weight rest =
-    omega (arith, sum_by-append (λ x. x) (replicate run 0) (weight ∷ rest), sum_by-replicate (λ (x : ℕ). x) run 0, sum_by-cons (λ x. x) weight rest)
+    omega (
+      arith,
+      sum_by-append (λ x. x) (replicate run 0) (weight ∷ rest),
+      sum_by-replicate (λ (x : ℕ). x) run 0,
+      sum_by-cons (λ x. x) weight rest,
+    )
 
 -- ---- a table of which some weights were read
 
@@ -218,7 +235,8 @@ reached_none precision count all left e = record {
 }
 
 -- the entry that a table goes on with
-pub record GoesOn (precision count : ℕ) (all done coming more : List ℕ) (left : ℕ) (table : BeginsWithWeights precision count (all ++ more)) : Type 0 where
+pub record GoesOn (precision count : ℕ) (all done coming more : List ℕ) (left : ℕ)
+    (table : BeginsWithWeights precision count (all ++ more)) : Type 0 where
   pub entry : BeginsWithEntry (coming ++ more)
   pub weights : List ℕ
   pub table_is : table.weights ≡ done ++ (replicate entry.run 0 ++ entry.weight ∷ weights)
@@ -240,7 +258,8 @@ goes_on precision count all done coming left small reached some more table =
     let rest_sum : sum on.0 ≡ left = omega (arith, reached.total) in
     let first = first_weight on.0 (omega arith) in
     let rest_is : sum on.0 ≡ first.weight + sum first.rest = ap sum first.weights_are ∙ sum-run first.run first.weight first.rest in
-    let whole : table.weights ≡ done ++ (replicate first.run 0 ++ first.weight ∷ first.rest) = on.1 ∙ ap (λ xs. done ++ xs) first.weights_are in
+    let whole : table.weights ≡ done ++ (replicate first.run 0 ++ first.weight ∷ first.rest) =
+    on.1 ∙ ap (λ xs. done ++ xs) first.weights_are in
     let lengths : length table.weights ≡ length done + (first.run + suc (length first.rest)) =
     omega (
       arith,
@@ -294,10 +313,16 @@ reached_more precision count all done coming left small reached some run weight 
             sum-run run weight [],
           );
       fits =
-          omega (arith, length-append (done ++ replicate run 0) (weight ∷ []), length-append done (replicate run 0), length-replicate {A = ℕ} run 0);
+          omega (
+            arith,
+            length-append (done ++ replicate run 0) (weight ∷ []),
+            length-append done (replicate run 0),
+            length-replicate {A = ℕ} run 0,
+          );
       only = λ more table.
           let on = goes_on precision count all done coming left small reached some more table in
-          let same = same_entry (coming ++ more) (next ++ more) run weight run_fits above weight_fits (extended coming (entry_bits run weight) next more e) on.entry in (
+          let same = same_entry (coming ++ more) (next ++ more) run weight run_fits above weight_fits
+          (extended coming (entry_bits run weight) next more e) on.entry in (
             on.weights,
             on.table_is ∙ ap (λ k. done ++ (replicate k 0 ++ on.entry.weight ∷ on.weights)) (sym same.0)
                 ∙ ap (λ k. done ++ (replicate run 0 ++ k ∷ on.weights)) (sym same.1) ∙ sym (grouped on.weights),
@@ -347,7 +372,8 @@ whole_table precision count all done coming left reached ended =
       parts =
           reached.parts
           ∙ ap (λ xs. xs ++ coming)
-          (sym (reached.written (replicate others 0) ∙ ap (λ xs. reached.taken ++ xs) (weight_bits-zeros 0 others) ∙ append-nil reached.taken));
+          (sym (reached.written (replicate others 0) ∙ ap (λ xs. reached.taken ++ xs) (weight_bits-zeros 0 others)
+          ∙ append-nil reached.taken));
       only = λ more table.
           let on = reached.only more table in
           let counted = table.counted in
@@ -367,7 +393,8 @@ alone precision count bits table = subst (BeginsWithWeights precision count) (sy
 weight_bits_first : (weights rest : List ℕ) (first : FirstWeight weights)
     → weight_bits 0 weights ++ rest ≡ entry_bits first.run first.weight ++ (weight_bits 0 first.rest ++ rest)
 weight_bits_first weights rest first =
-    ap (λ xs. weight_bits 0 xs ++ rest) first.weights_are ∙ ap (λ xs. xs ++ rest) (weight_bits-entry first.run first.weight first.rest first.some)
+    ap (λ xs. weight_bits 0 xs ++ rest) first.weights_are
+    ∙ ap (λ xs. xs ++ rest) (weight_bits-entry first.run first.weight first.rest first.some)
     ∙ append_assoc (entry_bits first.run first.weight) (weight_bits 0 first.rest) rest
 
 length_first : (weights : List ℕ) (first : FirstWeight weights) → length weights ≡ first.run + suc (length first.rest)
@@ -409,8 +436,10 @@ same_weights (suc fuel) xs ys r s short few small many total e =
             weight_fits = omega arith;
             bits_are = b-bits;
           } in
-          let same = same_entry (weight_bits 0 ys ++ s) (weight_bits 0 a.rest ++ r) a.run a.weight (omega arith) a.some (omega arith) (sym e ∙ a-bits) entry in
-          let rests = same_weights fuel a.rest b.rest r s (omega arith) (omega arith) (omega arith) (omega (arith, same.0)) (omega (arith, same.1)) same.2 in
+          let same = same_entry (weight_bits 0 ys ++ s) (weight_bits 0 a.rest ++ r) a.run a.weight (omega arith) a.some (omega arith)
+          (sym e ∙ a-bits) entry in
+          let rests = same_weights fuel a.rest b.rest r s (omega arith) (omega arith) (omega arith) (omega (arith, same.0))
+          (omega (arith, same.1)) same.2 in
           a.weights_are ∙ ap (λ k. replicate k 0 ++ a.weight ∷ a.rest) same.0 ∙ ap (λ k. replicate b.run 0 ++ k ∷ a.rest) same.1
           ∙ ap (λ k. replicate b.run 0 ++ b.weight ∷ k) rests ∙ sym b.weights_are
       | inr none ↦

@@ -98,7 +98,8 @@ same_number a b r s a-fits b-fits e =
     let first = length_first b count (bits (count - 1) a ++ r) s b-fits (short a a-fits)
     (sym (append_assoc (bits 4 count) (bits (count - 1) a) r) ∙ ap (λ xs. xs ++ r) (sym (bits_of_number a)) ∙ e) in
     let tails : bits (count - 1) a ++ r ≡ bits (count - 1) b ++ s = first.1 ∙ ap (λ k. bits (k - 1) b ++ s) (sym first.0) in
-    let both = apart (count - 1) (bits (count - 1) a) (bits (count - 1) b) r s (length-bits (count - 1) a) (length-bits (count - 1) b) tails in
+    let both = apart (count - 1) (bits (count - 1) a) (bits (count - 1) b) r s (length-bits (count - 1) a) (length-bits (count - 1) b)
+    tails in
     let a-bounds = length_bounds a (omega arith) in
     let b-bounds : (b < 2 ^ count) × (2 ^ count ≤ 2 * b + 1) = rw first.0 (length_bounds b (omega arith)) in
     (same_below a b count a-bounds.0 a-bounds.1 b-bounds.0 b-bounds.1 both.0, both.1)

@@ -130,7 +130,8 @@ zeros_after precision count bytes more weights next byte left fills e table same
     ∙ sym (append_assoc written (bits left byte ++ back) (bits_of_bytes more)) ∙ sym (ap (λ xs. xs ++ bits_of_bytes more) whole)
     ∙ sym (bits_of_bytes-append bytes more) ∙ ap bits_of_bytes table.bytes_are ∙ bits_of_bytes-append table.text table.rest
     ∙ ap (λ xs. xs ++ bits_of_bytes table.rest) text_is ∙ append_assoc written (replicate padding 0) (bits_of_bytes table.rest)) in
-    let zeros = apart left (bits left byte) (replicate padding 0) _ _ (length-bits left byte) (length-replicate padding 0 ∙ sym as_many) both in
+    let zeros = apart left (bits left byte) (replicate padding 0) _ _ (length-bits left byte) (length-replicate padding 0 ∙ sym as_many)
+    both in
     none_left left byte (zeros.0 ∙ ap (λ k. replicate k 0) (sym as_many))
 
 -- bytes begin with one table of as many weights
@@ -143,8 +144,8 @@ table_once precision count bytes small table other =
     let other-total = other.is_table.total in
     let counted = table.counted in
     let other-counted = other.counted in
-    let same = same_weights (length table.weights) table.weights other.weights _ _ (omega arith) few (omega arith) (omega arith) (omega arith)
-    (sym (bits_of_table precision count bytes bytes [] (sym (append-nil bytes)) table)
+    let same = same_weights (length table.weights) table.weights other.weights _ _ (omega arith) few (omega arith) (omega arith)
+    (omega arith) (sym (bits_of_table precision count bytes bytes [] (sym (append-nil bytes)) table)
     ∙ bits_of_table precision count bytes bytes [] (sym (append-nil bytes)) other) in
     let long : length table.text ≡ length other.text =
     same_length other.weights table.weights other.text table.text same other.is_text table.is_text in (

@@ -18,7 +18,8 @@ range-push : (a n : ℕ) → range_with_len a (n + 1) ≡ range_with_len a n ++ 
 range-push a zero = ap (λ k. k ∷ []) (let e : a ≡ a + 0 = omega arith in e)
 range-push a (suc n) =
     ap (range_with_len a) (add-one (suc n)) ∙ ap (λ k. a ∷ range_with_len (a + 1) k) (sym (add-one n))
-    ∙ ap (λ xs. a ∷ xs) (range-push (a + 1) n ∙ ap (λ k. range_with_len (a + 1) n ++ k ∷ []) (let e : a + 1 + n ≡ a + suc n = omega arith in e))
+    ∙ ap (λ xs. a ∷ xs)
+    (range-push (a + 1) n ∙ ap (λ k. range_with_len (a + 1) n ++ k ∷ []) (let e : a + 1 + n ≡ a + suc n = omega arith in e))
 
 -- one more symbol
 pub symbols-push : {S : Type 0} (symbol_of : ℕ → S) (n : ℕ)

@@ -142,20 +142,22 @@ pub table-more : {S E : Type 0} (number : S → ℕ) (row_in : E → Row S) (bit
     → IsEquivalence (same_number number) → list_any (same_number number s) (symbols_of rows) ≡ false
     → HoldsTable number row_in bits words list rows
     → HoldsTable number row_in bits more longer (rows ++ record { symbol = s; left = l; weight = w } ∷ [])
-table-more {S} number row_in bits words more list longer rows s k l w e p left weight at written packed long same is laws absent held = record {
-  coded = entries-more number list longer rows s k l w p left weight at held.coded written;
-  distinct =
-      let pushed : symbols_of (rows ++ record { symbol = s; left = l; weight = w } ∷ []) ≡ symbols_of rows ++ s ∷ [] =
-      map-append (λ (r : Row S). r.symbol) rows (record { symbol = s; left = l; weight = w } ∷ []) in
-      subst (IsDistinct (same_number number)) (sym pushed)
-      (distinct-push (same_number number) laws.symm (symbols_of rows) s held.distinct absent);
-  stand = λ fit. ap (map row_in) (is ∙ ap (λ n. take (l + w) words ++ replicate (l + w - n) e) same)
-      ∙ words-more row_in bits words rows s l w e packed held.stand fit;
-}
+table-more {S} number row_in bits words more list longer rows s k l w e p left weight at written packed long same is laws absent held =
+    record {
+      coded = entries-more number list longer rows s k l w p left weight at held.coded written;
+      distinct =
+          let pushed : symbols_of (rows ++ record { symbol = s; left = l; weight = w } ∷ []) ≡ symbols_of rows ++ s ∷ [] =
+          map-append (λ (r : Row S). r.symbol) rows (record { symbol = s; left = l; weight = w } ∷ []) in
+          subst (IsDistinct (same_number number)) (sym pushed)
+          (distinct-push (same_number number) laws.symm (symbols_of rows) s held.distinct absent);
+      stand = λ fit. ap (map row_in) (is ∙ ap (λ n. take (l + w) words ++ replicate (l + w - n) e) same)
+          ∙ words-more row_in bits words rows s l w e packed held.stand fit;
+    }
 
 -- the rows of a table that are known to tile are the rows of its words
 pub held-table : {S E : Type 0} (number : S → ℕ) (row_in : E → Row S) (bits precision : ℕ) (words : List E)
-    (list : List (Option PreparedEntry)) (rows : List (Row S)) → precision ≤ bits → HoldsTable number row_in bits words list rows → RowsTile 32 precision rows
+    (list : List (Option PreparedEntry)) (rows : List (Row S)) → precision ≤ bits → HoldsTable number row_in bits words list rows
+    → RowsTile 32 precision rows
     → (rows_in_table (map row_in words) ≡ rows) × IsTable number 32 precision (map row_in words) × (length words ≡ 2 ^ precision)
 held-table number row_in bits precision words list rows narrow held tile =
     let power : 2 ^ precision ≤ 2 ^ bits = pow-le-pow_right {n = 2} (omega arith) narrow in

@@ -5,7 +5,8 @@ use Rattle.std.proofs.Common.{refl, ap, ◌∙◌}
 use Rattle.constriction_adaptive.specs.ByContext.{ByContexts, learned_in, context_state, with_state}
 
 module _ {State Context Symbol : Type 0} (next : State → Symbol → State) (number : Context → ℕ) (after : Context → Symbol → Context)
-    (Same : Symbol → Symbol → Type 0) (next_same : (s : State) (symbol answer : Symbol) → Same symbol answer → next s answer ≡ next s symbol)
+    (Same : Symbol → Symbol → Type 0)
+    (next_same : (s : State) (symbol answer : Symbol) → Same symbol answer → next s answer ≡ next s symbol)
     (after_same : (s : Context) (symbol answer : Symbol) → Same symbol answer → after s answer ≡ after s symbol) where
   state-same : (symbol answer : Symbol) → Same symbol answer → (found : Option State)
       → option_map (λ state. next state answer) found ≡ option_map (λ state. next state symbol) found

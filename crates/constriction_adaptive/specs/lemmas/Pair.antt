@@ -1,5 +1,5 @@
--- Symbols in pairs: equality on each side is an equality, rows tile whatever their symbols are, and what comes back leads to the same state. The impls cite
--- it.
+-- Symbols in pairs: equality on each side is an equality, rows tile whatever their symbols are, and what comes back leads to the same
+-- state. The impls cite it.
 use Rattle.std.specs.Prelude.{◌≡◌, ℕ, ◌+◌, Bool, true, false, List, [], ◌∷◌, drop, length, map, if◌then◌else◌}
 use Rattle.std.specs.Cmp.{IsEquivalence}
 use Rattle.std.proofs.Common.{get_or, refl, ap, ◌∙◌, subst, arith}
@@ -84,7 +84,8 @@ symbols-same {A} {B} stands_left eq_left stands_right eq_right left right symbol
 module _ {L R Context A B : Type 0} (next_left : L → A → L) (next_right : R → B → R) (number : Context → ℕ) (after : Context → A → Context)
     (stands_left : A → A → Type 0) (eq_left : A → A → Bool) (stands_right : B → B → Type 0) (eq_right : B → B → Bool)
     (left_same : (s : L) (symbol answer : A) → StandsForEqual stands_left eq_left symbol answer → next_left s answer ≡ next_left s symbol)
-    (right_same : (s : R) (symbol answer : B) → StandsForEqual stands_right eq_right symbol answer → next_right s answer ≡ next_right s symbol)
+    (right_same : (s : R) (symbol answer : B) → StandsForEqual stands_right eq_right symbol answer
+    → next_right s answer ≡ next_right s symbol)
     (after_same : (s : Context) (symbol answer : A) → StandsForEqual stands_left eq_left symbol answer → after s answer ≡ after s symbol)
   where
     -- it leads to the same state, if it does on each side and in the context
@@ -103,8 +104,8 @@ module _ {L R Context A B : Type 0} (next_left : L → A → L) (next_right : R 
             (after_same s.right.context a b (own, eq, stands))
         go (Right own) (Right a) (Right b) eq stands =
             ap (λ right. if s.is_right then pair_state s.left right false else s)
-            (learned-same next_right number (λ context _. context) (StandsForEqual stands_right eq_right) right_same (λ _ _ _ _. refl) s.right
-            a b (own, eq, stands))
+            (learned-same next_right number (λ context _. context) (StandsForEqual stands_right eq_right) right_same (λ _ _ _ _. refl)
+            s.right a b (own, eq, stands))
         go (Left own) (Right a) answer eq stands = absurd (let wrong : false ≡ true = eq in cc)
         go (Right own) (Left a) answer eq stands = absurd (let wrong : false ≡ true = eq in cc)
         go (Left own) (Left a) (Right b) eq stands = absurd stands

@@ -56,7 +56,8 @@ returns-in-Err g c = record {
       number-stops g.P.Predictor.next g.row.BITS g.Number.WholeNumber.whole c.args.numbers.now c.loop-number.number-index
       c.number-item.result c.loop-number-test.true c.number-item.is (g.P.Predictor.state c.args.predictor.now) _
       c.loop-number.invariant.so_far.learned (λ s. IsNarrowed (entry_at (predicted_entry g.P.Predictor.rows beq) s) 16)
-      (IsEncodingFault (entry_at (predicted_entry g.P.Predictor.rows beq)) 16 c.in-Err.error) _ _ _ c.in-Err.error c.loop-number.invariant.small
+      (IsEncodingFault (entry_at (predicted_entry g.P.Predictor.rows beq)) 16 c.in-Err.error) _ _ _ c.in-Err.error
+      c.loop-number.invariant.small
       (λ same. c.in-Err.ensures.large (ap Err same)) (λ same. c.in-Err.ensures.unlearned (ap Err same)) c.in-Err.ensures.err;
 }
 

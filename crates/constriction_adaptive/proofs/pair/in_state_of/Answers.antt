@@ -17,6 +17,6 @@ invariant_of-result g c =
       tile = subst
           (λ s. RowsTile 32 g.row.PRECISION (without_symbols (rows_of_side g.A.Predictor.rows g.B.Predictor.rows g.C.Context.number s)))
           (ap (λ left. pair_state left (context_state states context) pair.is_right) (sym c.requires.left)
-          ∙ ap (λ rights. pair_state (g.A.Predictor.state c.args.left) (context_state rights context) pair.is_right) (sym c.requires.rights))
-          pair.tile;
+          ∙ ap (λ rights. pair_state (g.A.Predictor.state c.args.left) (context_state rights context) pair.is_right)
+          (sym c.requires.rights)) pair.tile;
     }

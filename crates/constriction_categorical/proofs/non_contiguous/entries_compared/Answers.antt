@@ -33,7 +33,8 @@ returns g c =
     g.Symbol.PartialEq.eq c.rows_read.result
     (read-of_both g.S.IntoIterator.into_iter_gives g.S.IntoIter.Iterator.next_gives c.args.symbols
     g.P.IntoIterator.into_iter_gives g.P.IntoIter.Iterator.next_gives c.args.probabilities
-    (AreAccepted g.Symbol.PartialEq.eq g.Probability.WholeNumber.BITS g.row.PRECISION) (completed g.row.PRECISION c.args.infer_last_probability)
+    (AreAccepted g.Symbol.PartialEq.eq g.Probability.WholeNumber.BITS g.row.PRECISION)
+    (completed g.row.PRECISION c.args.infer_last_probability)
     g.Probability.WholeNumber.whole (λ v ss ws. HoldsRows g.Probability.WholeNumber.whole v.items (rows_of ss ws))
     c.into_iter-symbols.result c.into_iter-symbols.ensures.into_iter_gives c.into_iter-probabilities.result
     c.into_iter-probabilities.ensures.into_iter_gives c.rows_read.result c.rows_read.ensures.ok c.rows_read.ensures.invalid)

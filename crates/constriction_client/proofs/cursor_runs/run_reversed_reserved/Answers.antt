@@ -9,7 +9,8 @@ loop-call-preserved g c =
     let buf = g.Buf.SafeBufMut in
     let law = g.met.Buf.SafeBufMut in
     record {
-      ran = runs-more c.args.calls.now c.loop-call.call-index c.call-item.result _ _ _ _ _ c.step_reversed-reply.result c.loop-call-test.true
+      ran =
+          runs-more c.args.calls.now c.loop-call.call-index c.call-item.result _ _ _ _ _ c.step_reversed-reply.result c.loop-call-test.true
           c.loop-call.invariant.ran (rw c.call-item.is at c.step_reversed-reply.ensures.replied) c.push_reserved.ensures.items;
       kept = twice buf.with_words law.stand law.keeps_length law.unchanged law.again c.args.reversed.now.0.buf
           c.loop-call.reversed.0.buf c.step_reversed-reply.new.reversed.0.buf (g.Buf.SafeBuf.words_of c.loop-call.reversed.0.buf)

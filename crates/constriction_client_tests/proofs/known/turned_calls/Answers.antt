@@ -7,7 +7,8 @@ use Rattle.constriction_client_tests.proofs.known.turned_calls.Goals as goal
 
 pub returns-clause-replies : goal.returns-clause-replies
 returns-clause-replies c =
-    IfOk-weaker c.run_reversed.result _ _ (λ found ran. (known-run _ found.items _ (ap reversal c.requires) ran).0) c.run_reversed.ensures.ok
+    IfOk-weaker c.run_reversed.result _ _ (λ found ran. (known-run _ found.items _ (ap reversal c.requires) ran).0)
+    c.run_reversed.ensures.ok
 
 pub returns-clause-left : goal.returns-clause-left
 returns-clause-left c =

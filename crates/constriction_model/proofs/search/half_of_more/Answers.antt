@@ -17,14 +17,14 @@ overflow_add-result g c = omega (arith, c.requires.searching.narrowed.within, c.
 
 pub returns-then-at_most-clause-narrows : goal.returns-then-at_most-clause-narrows
 returns-then-at_most-clause-narrows g c =
-    asked_yes g.R.Probe _ _ _ _ _ _ _ c.requires.searching (halved_step c.args.size _ refl c.requires.more) (omega arith) c.if-at_most.ensures.same c.if-at_most.ensures.counted
-    (c.if-at_most.ensures.answer.0 refl)
+    asked_yes g.R.Probe _ _ _ _ _ _ _ c.requires.searching (halved_step c.args.size _ refl c.requires.more) (omega arith)
+    c.if-at_most.ensures.same c.if-at_most.ensures.counted (c.if-at_most.ensures.answer.0 refl)
 
 pub returns-else-at_most-clause-narrows : goal.returns-else-at_most-clause-narrows
 returns-else-at_most-clause-narrows g c =
     let at_is : c.args.first + c.args.size / 2 ≡ c.args.first + (c.args.size - (c.args.size - c.args.size / 2)) = omega arith in
-    asked_no g.R.Probe _ _ _ _ _ _ _ c.requires.searching (halved_step c.args.size _ refl c.requires.more) at_is c.if-at_most.ensures.same c.if-at_most.ensures.counted
-    (elim (cases_lt (g.R.Probe.number c.args.q) _) [
+    asked_no g.R.Probe _ _ _ _ _ _ _ c.requires.searching (halved_step c.args.size _ refl c.requires.more) at_is c.if-at_most.ensures.same
+    c.if-at_most.ensures.counted (elim (cases_lt (g.R.Probe.number c.args.q) _) [
       | inl greater ↦ greater
       | inr no_greater ↦ (let bad : false ≡ true = c.if-at_most.ensures.answer.1 no_greater in cc)
     ])

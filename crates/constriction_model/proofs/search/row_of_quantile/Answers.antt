@@ -20,11 +20,18 @@ returns-then-all-le2-clause-counted g c = counted_all g.R.Probe _ _ _ _ _ c.row_
 
 pub halve_four_times-near-requires : goal.halve_four_times-near-requires
 halve_four_times-near-requires g c =
-    record { searching = rw c.len-all.ensures (may_begin g.R.Probe _ _ c.requires.searchable (omega (arith, c.len-all.ensures)) c.requires.room) }
+    record {
+      searching =
+          rw c.len-all.ensures (may_begin g.R.Probe _ _ c.requires.searchable (omega (arith, c.len-all.ensures)) c.requires.room);
+    }
 
 pub halve_four_times-first-requires : goal.halve_four_times-first-requires
 halve_four_times-first-requires g c =
-    record { searching = goes_on g.R.Probe _ _ _ _ _ _ _ (may_begin g.R.Probe _ _ c.requires.searchable (omega (arith, c.len-all.ensures)) c.requires.room) (rw c.len-all.ensures at c.halve_four_times-near.ensures.narrows) }
+    record {
+      searching = goes_on g.R.Probe _ _ _ _ _ _ _
+          (may_begin g.R.Probe _ _ c.requires.searchable (omega (arith, c.len-all.ensures)) c.requires.room)
+          (rw c.len-all.ensures at c.halve_four_times-near.ensures.narrows);
+    }
 
 pub rows-init : goal.rows-init
 rows-init g c =
@@ -33,7 +40,10 @@ rows-init g c =
 
 pub sixteenth-next-requires : goal.sixteenth-next-requires
 sixteenth-next-requires g c =
-    record { searching = goes_on g.R.Probe _ _ _ _ _ _ _ (may_begin g.R.Probe _ _ c.requires.searchable (omega (arith, c.len-all.ensures)) c.requires.room) c.rows.invariant }
+    record {
+      searching = goes_on g.R.Probe _ _ _ _ _ _ _
+          (may_begin g.R.Probe _ _ c.requires.searchable (omega (arith, c.len-all.ensures)) c.requires.room) c.rows.invariant;
+    }
 
 pub rows-smaller : goal.rows-smaller
 rows-smaller g c = c.sixteenth-next.ensures.fewer c.rows-test.true

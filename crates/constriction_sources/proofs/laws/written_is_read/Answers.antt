@@ -17,7 +17,8 @@ returns g c =
     let words_of = g.Backend.StackSource.words_of in
     record {
       written = λ old new w wrote.
-          known_pushes {E = g.row.Backend-WriteError.Denot} g.Backend.WriteWords.tells_written words_of (words_of old) g.met.Backend.WordStack.tells_no_others w (Ok tt) new
+          known_pushes {E = g.row.Backend-WriteError.Denot} g.Backend.WriteWords.tells_written words_of (words_of old)
+          g.met.Backend.WordStack.tells_no_others w (Ok tt) new
           (g.met.Backend.WriteWords.writes_append old w (Ok tt) new wrote (words_of old) (g.met.Backend.WordStack.tells_words old));
       read = λ later new w r words on_top read.
           pops-last words w (words_of later) r (words_of new) on_top

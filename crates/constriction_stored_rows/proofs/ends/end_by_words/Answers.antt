@@ -13,8 +13,8 @@ either i n false e = inr (ltb-false i n e, e)
 
 -- with one or two rows, the end words are the ends
 few : {Word : Type 0} (whole : Word → ℕ) (bits precision : ℕ) (lefts : List ℕ) (end_words : List Word)
-    → AreEndWords bits precision lefts (map whole end_words) → (i : ℕ) (x : Word) → length lefts ≤ 2 → i < length lefts → i < length end_words
-    → x ≡ get_or end_words i x → whole x ≡ end_at bits precision lefts i
+    → AreEndWords bits precision lefts (map whole end_words) → (i : ℕ) (x : Word) → length lefts ≤ 2 → i < length lefts
+    → i < length end_words → x ≡ get_or end_words i x → whole x ≡ end_at bits precision lefts i
 few whole bits precision lefts end_words b zero x two h in_bounds is =
     sym (read-whole whole end_words 0 x in_bounds is) ∙ ap (λ ns. get_or ns 0 0) (b.ends two)
 few whole bits precision lefts end_words b (suc zero) x two h in_bounds is =
@@ -38,8 +38,8 @@ returns-then-entries-le2 g c =
     let long = length-map c.args.entries.now known in
     let two = end_words-two g.Word.WholeNumber.whole g.Word.WholeNumber.BITS g.row.PRECISION (map known c.args.entries.now)
     c.args.end_words.now c.requires.end_words in
-    few g.Word.WholeNumber.whole g.Word.WholeNumber.BITS g.row.PRECISION (map known c.args.entries.now) c.args.end_words.now c.requires.end_words
-    c.args.index _ (omega (arith, long)) (omega (arith, long)) (omega (arith, long, two)) c.index-end_words-index.is
+    few g.Word.WholeNumber.whole g.Word.WholeNumber.BITS g.row.PRECISION (map known c.args.entries.now) c.args.end_words.now
+    c.requires.end_words c.args.index _ (omega (arith, long)) (omega (arith, long)) (omega (arith, long, two)) c.index-end_words-index.is
 
 pub returns : goal.returns
 returns g c =
@@ -59,7 +59,8 @@ returns g c =
           let next : c.from-next.result ≡ 1 = rw less.1 at c.from-next.ensures in
           end_words-next whole bits g.row.PRECISION (map known entries) c.args.end_words.now c.requires.end_words i end x many
           (omega (arith, long, less.0)) (rw next at c.index-end_words-next.is) c.wrapping_minus.ensures.range
-          (taken ∙ sym (read-whole known entries (i + 1) c.index-entries-index.result (omega (arith, less.0)) (rw next at c.index-entries-index.is)))
+          (taken ∙ sym (read-whole known entries (i + 1) c.index-entries-index.result (omega (arith, less.0))
+          (rw next at c.index-entries-index.is)))
       | inr last ↦
           let next : c.from-next.result ≡ 0 = rw last.1 at c.from-next.ensures in
           let same : i + c.from-next.result ≡ i = omega (arith, next) in

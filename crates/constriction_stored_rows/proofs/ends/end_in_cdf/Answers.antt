@@ -20,5 +20,5 @@ returns g c =
     let whole = g.Word.WholeNumber.whole in
     let known = λ (x : g.row.Word.Denot × g.row.Symbol.Denot). whole x.0 in
     let some : 0 < length (map whole c.args.cdf.now) = grind (arith, common_steps, length-map c.args.cdf.now whole) in
-    among-end g.Word.WholeNumber.BITS g.row.PRECISION (map known c.args.entries.now) whole c.args.cdf.now (c.requires.cdf some) c.args.index _
-    (omega (arith, length-map c.args.entries.now known)) c.index-cdf-index.is
+    among-end g.Word.WholeNumber.BITS g.row.PRECISION (map known c.args.entries.now) whole c.args.cdf.now (c.requires.cdf some) c.args.index
+    _ (omega (arith, length-map c.args.entries.now known)) c.index-cdf-index.is

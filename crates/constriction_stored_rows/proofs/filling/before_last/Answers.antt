@@ -38,5 +38,5 @@ returns-clause-before g c = (
 pub returns-clause-some_left : goal.returns-clause-some_left
 returns-clause-some_left g c =
     before-left g.Word.WholeNumber.BITS g.row.PRECISION _ _ _ c.requires
-    (before-given g.Word.WholeNumber.BITS g.row.PRECISION g.Word.WholeNumber.whole c.args.weights.now c.in-Some.before.now _ c.args.infer_last
-    c.if-infer_last.false c.in-Some.ensures.cases.0)
+    (before-given g.Word.WholeNumber.BITS g.row.PRECISION g.Word.WholeNumber.whole c.args.weights.now c.in-Some.before.now _
+    c.args.infer_last c.if-infer_last.false c.in-Some.ensures.cases.0)

@@ -15,7 +15,14 @@ plus-left-requires g c =
     let here : c.loop-weight.weight-index < length ws = omega (arith, length-map c.args.weights.now whole) in
     let read = read-whole whole c.args.weights.now c.loop-weight.weight-index c.weight-item.result (omega arith) c.weight-item.is in
     let wide : 2 ^ g.row.PRECISION ≤ 2 ^ g.Word.WholeNumber.BITS = pow-le-pow_right {n = 2} (omega arith) c.requires.precision.fits in
-    omega (arith, c.loop-weight.invariant.left, read, sum_by_more_le (λ x. x) ws c.loop-weight.weight-index 0 here, c.requires.some_left, wide)
+    omega (
+      arith,
+      c.loop-weight.invariant.left,
+      read,
+      sum_by_more_le (λ x. x) ws c.loop-weight.weight-index 0 here,
+      c.requires.some_left,
+      wide,
+    )
 
 pub loop-weight-preserved : goal.loop-weight-preserved
 loop-weight-preserved g c =
@@ -25,10 +32,12 @@ loop-weight-preserved g c =
     let here : i < length ws = omega (arith, length-map c.args.weights.now whole) in
     let read = read-whole whole c.args.weights.now i c.weight-item.result (omega arith) c.weight-item.is in
     let more = sum_by_more (λ x. x) ws i 0 here in
-    let left : whole c.plus-left.result ≡ sum (take (i + 1) ws) = omega (arith, c.plus-left.ensures, c.loop-weight.invariant.left, read, more) in
+    let left : whole c.plus-left.result ≡ sum (take (i + 1) ws) =
+    omega (arith, c.plus-left.ensures, c.loop-weight.invariant.left, read, more) in
     let pushed = c.push_reserved-in-loop-weight.ensures.items in
     record {
-      words = one_more_left whole c.loop-weight.cdf.items c.push_reserved-in-loop-weight.new.self.items ws i c.plus-left.result pushed c.loop-weight.invariant.words here left;
+      words = one_more_left whole c.loop-weight.cdf.items c.push_reserved-in-loop-weight.new.self.items ws i c.plus-left.result pushed
+          c.loop-weight.invariant.words here left;
       left = left;
       long = omega (arith, c.push_reserved-in-loop-weight.ensures.len, c.loop-weight.invariant.long);
       room = omega (arith, c.push_reserved-in-loop-weight.ensures.capacity, c.loop-weight.invariant.room);
@@ -38,7 +47,8 @@ pub loop-weight-init : goal.loop-weight-init
 loop-weight-init g c =
     let whole = g.Word.WholeNumber.whole in
     let pushed =
-    one_pushed c.clear.new.self.items c.push_reserved.new.self.items c.least-left.result c.clear.ensures.items c.push_reserved.ensures.items in
+    one_pushed c.clear.new.self.items c.push_reserved.new.self.items c.least-left.result c.clear.ensures.items
+    c.push_reserved.ensures.items in
     record {
       words = ap (map whole) pushed ∙ ap (λ n. n ∷ []) c.least-left.ensures;
       left = c.least-left.ensures;
@@ -58,7 +68,8 @@ pub returns : goal.returns
 returns g c =
     let whole = g.Word.WholeNumber.whole in
     let ws = map whole c.args.weights.now in
-    let all : take c.loop-weight.weight-index ws ≡ ws = take_all c.loop-weight.weight-index ws (omega (arith, length-map c.args.weights.now whole)) in
+    let all : take c.loop-weight.weight-index ws ≡ ws =
+    take_all c.loop-weight.weight-index ws (omega (arith, length-map c.args.weights.now whole)) in
     ap (map whole) c.push_reserved-2.ensures.items ∙ map_push whole c.loop-weight.cdf.items c.wrapping_pow2.result
     ∙ ap (λ ns. ns ++ whole c.wrapping_pow2.result ∷ []) (c.loop-weight.invariant.words ∙ ap (λ xs. lefts_from 0 xs ++ sum xs ∷ []) all)
     ∙ ap (λ n. (lefts_from 0 ws ++ sum ws ∷ []) ++ n ∷ []) c.wrapping_pow2.ensures

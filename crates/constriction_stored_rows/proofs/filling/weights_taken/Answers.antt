@@ -70,8 +70,8 @@ returns-in_err-take_weight-3-clause-invalid g c = λ e.
 
 pub returns-clause-ok : goal.returns-clause-ok
 returns-clause-ok g c =
-    begun-inferred c.rows.invariant.2.1 c.args.infer_last (g.Taken.TakesWeights.took _) _ (g.Word.WholeNumber.whole c.plus.result) _ c.in_default.ensures.steps
-    (c.is_inferred_last.ensures.inferred c.if-not-is_inferred_last.false)
+    begun-inferred c.rows.invariant.2.1 c.args.infer_last (g.Taken.TakesWeights.took _) _ (g.Word.WholeNumber.whole c.plus.result) _
+    c.in_default.ensures.steps (c.is_inferred_last.ensures.inferred c.if-not-is_inferred_last.false)
     (omega (arith, c.plus.ensures, c.greatest_of_bits-one.ensures.value))
     (c.in_ok-take_weight-3.ensures.took (refl {a = true}) _ _ c.rows.invariant.2.2 c.rows.invariant.2.1.filled.is)
 
@@ -79,7 +79,8 @@ pub leaves_some-requires-clause-one : goal.leaves_some-requires-clause-one
 leaves_some-requires-clause-one g c = omega (arith, c.greatest_of_bits-one.ensures.value)
 
 pub leaves_some-requires-clause-range : goal.leaves_some-requires-clause-range
-leaves_some-requires-clause-range g c = omega (arith, c.rows.invariant.2.1.rest, c.greatest_of_bits-room.ensures.value, c.greatest_of_bits-room.ensures.within)
+leaves_some-requires-clause-range g c =
+    omega (arith, c.rows.invariant.2.1.rest, c.greatest_of_bits-room.ensures.value, c.greatest_of_bits-room.ensures.within)
 
 pub fills_all-requires-clause-one : goal.fills_all-requires-clause-one
 fills_all-requires-clause-one g c = omega (arith, c.greatest_of_bits-one.ensures.value)
@@ -122,7 +123,14 @@ pub returns-then-not-leaves_some-clause-memory : goal.returns-then-not-leaves_so
 returns-then-not-leaves_some-clause-memory g c = λ e. absurd (accepted≢refused _ _ e)
 
 pub plus-left-requires : goal.plus-left-requires
-plus-left-requires g c = omega (arith, c.rows.invariant.2.1.rest, c.greatest_of_bits-room.ensures.value, c.greatest_of_bits-room.ensures.within, (c.leaves_some.ensures.some c.if-not-leaves_some.false).1)
+plus-left-requires g c =
+    omega (
+      arith,
+      c.rows.invariant.2.1.rest,
+      c.greatest_of_bits-room.ensures.value,
+      c.greatest_of_bits-room.ensures.within,
+      (c.leaves_some.ensures.some c.if-not-leaves_some.false).1,
+    )
 
 pub minus-room-requires : goal.minus-room-requires
 minus-room-requires g c = (c.leaves_some.ensures.some c.if-not-leaves_some.false).1
@@ -135,13 +143,15 @@ take_weight-requires-in-Some-clause-begun g c =
     (c.args.taken, map g.Word.WholeNumber.whole c.rows.invariant.2.0, c.rows.invariant.2.2, c.rows.invariant.2.1.filled.is)
 
 pub returns-in_err-take_weight-2-clause-ok : goal.returns-in_err-take_weight-2-clause-ok
-returns-in_err-take_weight-2-clause-ok g c = IfOk-from_err c.from_residual-in_err-take_weight-2.result _ c.from_residual-in_err-take_weight-2.ensures.0
+returns-in_err-take_weight-2-clause-ok g c =
+    IfOk-from_err c.from_residual-in_err-take_weight-2.result _ c.from_residual-in_err-take_weight-2.ensures.0
 
 pub returns-in_err-take_weight-2-clause-memory : goal.returns-in_err-take_weight-2-clause-memory
 returns-in_err-take_weight-2-clause-memory g c = λ e. c.take_weight-in-Some.ensures.memory (search rules)
 
 pub is_inferred_last-requires : goal.is_inferred_last-requires
-is_inferred_last-requires g c = omega (arith, c.rows.invariant.2.1.rest, c.greatest_of_bits-room.ensures.value, c.greatest_of_bits-room.ensures.within)
+is_inferred_last-requires g c =
+    omega (arith, c.rows.invariant.2.1.rest, c.greatest_of_bits-room.ensures.value, c.greatest_of_bits-room.ensures.within)
 
 pub returns-then-not-is_inferred_last-clause-ok : goal.returns-then-not-is_inferred_last-clause-ok
 returns-then-not-is_inferred_last-clause-ok g c = tt
@@ -161,7 +171,8 @@ take_weight-requires-2-clause-begun g c =
     (c.args.taken, map g.Word.WholeNumber.whole c.rows.invariant.2.0, c.rows.invariant.2.2, c.rows.invariant.2.1.filled.is)
 
 pub returns-in_err-take_weight-3-clause-ok : goal.returns-in_err-take_weight-3-clause-ok
-returns-in_err-take_weight-3-clause-ok g c = IfOk-from_err c.from_residual-in_err-take_weight-3.result _ c.from_residual-in_err-take_weight-3.ensures.0
+returns-in_err-take_weight-3-clause-ok g c =
+    IfOk-from_err c.from_residual-in_err-take_weight-3.result _ c.from_residual-in_err-take_weight-3.ensures.0
 
 pub returns-in_err-take_weight-3-clause-memory : goal.returns-in_err-take_weight-3-clause-memory
 returns-in_err-take_weight-3-clause-memory g c = λ e. c.take_weight-2.ensures.memory (search rules)

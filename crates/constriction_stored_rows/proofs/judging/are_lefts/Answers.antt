@@ -49,7 +49,8 @@ returns-then-not-is_at_most g c =
       λ no. cc,
       λ t. absurd (not_stored-end g.Word.WholeNumber.BITS g.row.PRECISION (map whole c.args.lefts.now) rest (whole c.in-Some.first.now)
           c.loop-left.left-index (whole c.loop-left.before) (ap (map whole) c.in-Some.ensures.cases.0) c.loop-left.invariant.1
-          (omega (arith, length-map c.in-Some.rest.now whole)) (inl (let much : whole c.greatest_of_bits-greatest.result < whole c.loop-left.before = search rules in
+          (omega (arith, length-map c.in-Some.rest.now whole))
+          (inl (let much : whole c.greatest_of_bits-greatest.result < whole c.loop-left.before = search rules in
           omega (arith, much, c.greatest_of_bits-greatest.ensures.value))) t),
     )
 

@@ -15,12 +15,15 @@ weights_taken-requires-clause-none g c = record {
 
 pub returns-in_err-taken-clause-invalid : goal.returns-in_err-taken-clause-invalid
 returns-in_err-taken-clause-invalid g c = λ e.
-    bad-taken g.Weights.Iterator.next_gives g.Word.WholeNumber.whole c.args.infer_last (λ t. t.symbols) (λ t. g.Stored.TakesRows.holds t.stored) (c.in_err-taken.ensures.invalid (search rules))
+    bad-taken g.Weights.Iterator.next_gives g.Word.WholeNumber.whole c.args.infer_last (λ t. t.symbols)
+    (λ t. g.Stored.TakesRows.holds t.stored) (c.in_err-taken.ensures.invalid (search rules))
 
 pub returns-in-Some-clause-invalid : goal.returns-in-Some-clause-invalid
 returns-in-Some-clause-invalid g c = λ _.
-    bad-many g.Weights.Iterator.next_gives g.Word.WholeNumber.whole c.args.infer_last _ _ _ c.in_ok-taken.ensures.ok c.in-Some.field-0 c.in-Some.ensures.steps
+    bad-many g.Weights.Iterator.next_gives g.Word.WholeNumber.whole c.args.infer_last _ _ _ c.in_ok-taken.ensures.ok c.in-Some.field-0
+    c.in-Some.ensures.steps
 
 pub returns-clause-ok : goal.returns-clause-ok
 returns-clause-ok g c =
-    good-taken g.Weights.Iterator.next_gives g.Word.WholeNumber.whole c.args.infer_last _ _ _ c.in_ok-taken.ensures.ok c.in_default.ensures.steps
+    good-taken g.Weights.Iterator.next_gives g.Word.WholeNumber.whole c.args.infer_last _ _ _ c.in_ok-taken.ensures.ok
+    c.in_default.ensures.steps

@@ -18,7 +18,8 @@ above-requires-2 g c =
 pub overflow_add-result : goal.overflow_add-result
 overflow_add-result g c =
     let row =
-    row_of_three g.row.PRECISION g.row.SLOT_BITS (g.Kind.Word.WholeNumber.whole c.args.quantile) (map g.Kind.CdfEntry.cumulative c.args.entries.now)
+    row_of_three g.row.PRECISION g.row.SLOT_BITS (g.Kind.Word.WholeNumber.whole c.args.quantile)
+    (map g.Kind.CdfEntry.cumulative c.args.entries.now)
     c.requires.increases c.args.first c.args.last c.requires.slot _ c.above.result c.above-2.result c.requires.order c.requires.few refl
     c.above.ensures.at_most c.above.ensures.above c.above-2.ensures.at_most c.above-2.ensures.above in
     omega (arith, row.0)
@@ -26,7 +27,8 @@ overflow_add-result g c =
 pub overflow_sub-result : goal.overflow_sub-result
 overflow_sub-result g c =
     let row =
-    row_of_three g.row.PRECISION g.row.SLOT_BITS (g.Kind.Word.WholeNumber.whole c.args.quantile) (map g.Kind.CdfEntry.cumulative c.args.entries.now)
+    row_of_three g.row.PRECISION g.row.SLOT_BITS (g.Kind.Word.WholeNumber.whole c.args.quantile)
+    (map g.Kind.CdfEntry.cumulative c.args.entries.now)
     c.requires.increases c.args.first c.args.last c.requires.slot _ c.above.result c.above-2.result c.requires.order c.requires.few refl
     c.above.ensures.at_most c.above.ensures.above c.above-2.ensures.at_most c.above-2.ensures.above in
     row.0
@@ -34,7 +36,8 @@ overflow_sub-result g c =
 pub returns : goal.returns
 returns g c =
     let row =
-    row_of_three g.row.PRECISION g.row.SLOT_BITS (g.Kind.Word.WholeNumber.whole c.args.quantile) (map g.Kind.CdfEntry.cumulative c.args.entries.now)
+    row_of_three g.row.PRECISION g.row.SLOT_BITS (g.Kind.Word.WholeNumber.whole c.args.quantile)
+    (map g.Kind.CdfEntry.cumulative c.args.entries.now)
     c.requires.increases c.args.first c.args.last c.requires.slot _ c.above.result c.above-2.result c.requires.order c.requires.few refl
     c.above.ensures.at_most c.above.ensures.above c.above-2.ensures.at_most c.above-2.ensures.above in
     row.1

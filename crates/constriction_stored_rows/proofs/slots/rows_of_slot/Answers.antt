@@ -21,16 +21,16 @@ to_number-row-requires g c =
 
 pub returns-then-width_of_slots-eq1-clause-slot : goal.returns-then-width_of_slots-eq1-clause-slot
 returns-then-width_of_slots-eq1-clause-slot g c =
-    let slot = slot-alone g.Kind.Word.WholeNumber.whole g.Kind.CdfEntry.cumulative c.args.entries.now c.args.table.now _ _ _ c.requires.slots
-    c.slot_of_quantile-slot.ensures.below
+    let slot = slot-alone g.Kind.Word.WholeNumber.whole g.Kind.CdfEntry.cumulative c.args.entries.now c.args.table.now _ _ _
+    c.requires.slots c.slot_of_quantile-slot.ensures.below
     (omega (arith, c.width_of_slots.ensures, c.if-width_of_slots-eq1.true))
     c.index-table-slot.result c.index-table-slot.is in
     rw (← c.slot_of_quantile-slot.ensures.is, c.to_number-row.ensures) slot
 
 pub bounds-table-slot-2 : goal.bounds-table-slot-2
 bounds-table-slot-2 g c =
-    let within = pair-within g.Kind.Word.WholeNumber.whole g.Kind.CdfEntry.cumulative c.args.entries.now c.args.table.now _ _ _ c.requires.slots
-    c.slot_of_quantile-slot.ensures.below
+    let within = pair-within g.Kind.Word.WholeNumber.whole g.Kind.CdfEntry.cumulative c.args.entries.now c.args.table.now _ _ _
+    c.requires.slots c.slot_of_quantile-slot.ensures.below
     (omega (arith, pow_pos (g.row.PRECISION - g.row.SLOT_BITS), c.width_of_slots.ensures, c.if-width_of_slots-eq1.false)) in
     omega (arith, within)
 
@@ -45,15 +45,15 @@ to_number-requires g c =
 
 pub offset_bounds-table-slot-3 : goal.offset_bounds-table-slot-3
 offset_bounds-table-slot-3 g c =
-    let within = pair-within g.Kind.Word.WholeNumber.whole g.Kind.CdfEntry.cumulative c.args.entries.now c.args.table.now _ _ _ c.requires.slots
-    c.slot_of_quantile-slot.ensures.below
+    let within = pair-within g.Kind.Word.WholeNumber.whole g.Kind.CdfEntry.cumulative c.args.entries.now c.args.table.now _ _ _
+    c.requires.slots c.slot_of_quantile-slot.ensures.below
     (omega (arith, pow_pos (g.row.PRECISION - g.row.SLOT_BITS), c.width_of_slots.ensures, c.if-width_of_slots-eq1.false)) in
     omega (arith, within)
 
 pub bounds-table-slot-3 : goal.bounds-table-slot-3
 bounds-table-slot-3 g c =
-    let within = pair-within g.Kind.Word.WholeNumber.whole g.Kind.CdfEntry.cumulative c.args.entries.now c.args.table.now _ _ _ c.requires.slots
-    c.slot_of_quantile-slot.ensures.below
+    let within = pair-within g.Kind.Word.WholeNumber.whole g.Kind.CdfEntry.cumulative c.args.entries.now c.args.table.now _ _ _
+    c.requires.slots c.slot_of_quantile-slot.ensures.below
     (omega (arith, pow_pos (g.row.PRECISION - g.row.SLOT_BITS), c.width_of_slots.ensures, c.if-width_of_slots-eq1.false)) in
     omega (arith, within)
 
@@ -99,28 +99,28 @@ returns-then-width_of_slots-eq1-clause-order g c = omega arith
 
 pub overflow_mul-slot : goal.overflow_mul-slot
 overflow_mul-slot g c =
-    let within = pair-within g.Kind.Word.WholeNumber.whole g.Kind.CdfEntry.cumulative c.args.entries.now c.args.table.now _ _ _ c.requires.slots
-    c.slot_of_quantile-slot.ensures.below
+    let within = pair-within g.Kind.Word.WholeNumber.whole g.Kind.CdfEntry.cumulative c.args.entries.now c.args.table.now _ _ _
+    c.requires.slots c.slot_of_quantile-slot.ensures.below
     (omega (arith, pow_pos (g.row.PRECISION - g.row.SLOT_BITS), c.width_of_slots.ensures, c.if-width_of_slots-eq1.false)) in
     omega (arith, within)
 
 pub offset_bounds-table-slot-2 : goal.offset_bounds-table-slot-2
 offset_bounds-table-slot-2 g c =
-    let within = pair-within g.Kind.Word.WholeNumber.whole g.Kind.CdfEntry.cumulative c.args.entries.now c.args.table.now _ _ _ c.requires.slots
-    c.slot_of_quantile-slot.ensures.below
+    let within = pair-within g.Kind.Word.WholeNumber.whole g.Kind.CdfEntry.cumulative c.args.entries.now c.args.table.now _ _ _
+    c.requires.slots c.slot_of_quantile-slot.ensures.below
     (omega (arith, pow_pos (g.row.PRECISION - g.row.SLOT_BITS), c.width_of_slots.ensures, c.if-width_of_slots-eq1.false)) in
     omega (arith, within)
 
 pub overflow_mul-slot-2 : goal.overflow_mul-slot-2
 overflow_mul-slot-2 g c =
-    let within = pair-within g.Kind.Word.WholeNumber.whole g.Kind.CdfEntry.cumulative c.args.entries.now c.args.table.now _ _ _ c.requires.slots
-    c.slot_of_quantile-slot.ensures.below
+    let within = pair-within g.Kind.Word.WholeNumber.whole g.Kind.CdfEntry.cumulative c.args.entries.now c.args.table.now _ _ _
+    c.requires.slots c.slot_of_quantile-slot.ensures.below
     (omega (arith, pow_pos (g.row.PRECISION - g.row.SLOT_BITS), c.width_of_slots.ensures, c.if-width_of_slots-eq1.false)) in
     omega (arith, within)
 
 pub overflow_add-slot : goal.overflow_add-slot
 overflow_add-slot g c =
-    let within = pair-within g.Kind.Word.WholeNumber.whole g.Kind.CdfEntry.cumulative c.args.entries.now c.args.table.now _ _ _ c.requires.slots
-    c.slot_of_quantile-slot.ensures.below
+    let within = pair-within g.Kind.Word.WholeNumber.whole g.Kind.CdfEntry.cumulative c.args.entries.now c.args.table.now _ _ _
+    c.requires.slots c.slot_of_quantile-slot.ensures.below
     (omega (arith, pow_pos (g.row.PRECISION - g.row.SLOT_BITS), c.width_of_slots.ensures, c.if-width_of_slots-eq1.false)) in
     omega (arith, within)

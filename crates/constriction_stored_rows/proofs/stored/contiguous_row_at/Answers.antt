@@ -14,7 +14,8 @@ returns g c =
     record {
       row =
           stored-here bits g.row.PRECISION cdf c.requires.cdf c.args.index (whole c.cdf_row_at-left.result.0)
-          (whole (g.Word.WholeNumber.base c.cdf_row_at-left.result.1)) within c.cdf_row_at-left.ensures.left c.cdf_row_at-left.ensures.weight;
+          (whole (g.Word.WholeNumber.base c.cdf_row_at-left.result.1)) within c.cdf_row_at-left.ensures.left
+          c.cdf_row_at-left.ensures.weight;
       within = rw (c.cdf_row_at-left.ensures.left, c.cdf_row_at-left.ensures.weight) (row.positive, row.within);
       symbol = refl;
     }

@@ -19,7 +19,8 @@ pub rows_read-requires-clause-weights_go : goal.rows_read-requires-clause-weight
 rows_read-requires-clause-weights_go g c = (c.requires.weights_end c.into_iter-weights.result c.into_iter-weights.ensures.into_iter_gives).0
 
 pub rows_read-requires-clause-weights_end : goal.rows_read-requires-clause-weights_end
-rows_read-requires-clause-weights_end g c = (c.requires.weights_end c.into_iter-weights.result c.into_iter-weights.ensures.into_iter_gives).1
+rows_read-requires-clause-weights_end g c =
+    (c.requires.weights_end c.into_iter-weights.result c.into_iter-weights.ensures.into_iter_gives).1
 
 pub returns : goal.returns
 returns g c =
@@ -45,8 +46,8 @@ returns-in_err-read g c = record {
   ok = search rules;
   invalid = λ h.
       let e : c.rows_read.result ≡ Err InvalidTable = search rules in
-      bad-both g.Symbols.IntoIterator.into_iter_gives g.Symbols.IntoIter.Iterator.next_gives c.args.symbols g.Weights.IntoIterator.into_iter_gives
-      g.Weights.IntoIter.Iterator.next_gives c.args.weights
+      bad-both g.Symbols.IntoIterator.into_iter_gives g.Symbols.IntoIter.Iterator.next_gives c.args.symbols
+      g.Weights.IntoIterator.into_iter_gives g.Weights.IntoIter.Iterator.next_gives c.args.weights
       (λ ss ws. AreAccepted (λ _ _. false) g.Word.WholeNumber.BITS g.row.PRECISION ss
       (completed g.row.PRECISION c.args.infer_last (map g.Word.WholeNumber.whole ws))) (
         c.into_iter-symbols.result,

@@ -53,8 +53,8 @@ returns-then-zeros-count-clause-not_a_table g c = λ is more table.
     let read = c.in_ok-zeros.ensures.ok in
     let on = goes_on g.row.PRECISION c.args.count all c.loop-left.weights.items coming c.loop-left.left c.requires.precision
     c.loop-left.invariant.reached c.loop-left-test.true more table in
-    let same = same_entry (coming ++ more) (next ++ more) run weight read.1 read.2 read.3 (extended coming (entry_bits run weight) next more read.0)
-    on.entry in
+    let same = same_entry (coming ++ more) (next ++ more) run weight read.1 read.2 read.3
+    (extended coming (entry_bits run weight) next more read.0) on.entry in
     elim c.then-zeros-count.branch [
       | then-zeros-count-via-then-zeros-count w ↦ omega (arith, same.0, on.room, w.if-zeros-count.true, c.len.ensures)
       | then-zeros-count-via-else-zeros-count+then-weight-left w ↦ omega (arith, same.1, on.within, w.if-weight-left.true)
@@ -76,7 +76,8 @@ loop-left-preserved g c =
       within = c.in_ok-zeros.ensures.within;
       room = omega (arith, here.room, c.push_zeros.ensures.capacity, c.push_reserved.ensures.capacity);
       reached =
-          rw (c.push_reserved.ensures.items, c.push_zeros.ensures.items) (reached_more g.row.PRECISION c.args.count all done coming c.loop-left.left
+          rw (c.push_reserved.ensures.items, c.push_zeros.ensures.items)
+          (reached_more g.row.PRECISION c.args.count all done coming c.loop-left.left
           c.requires.precision here.reached c.loop-left-test.true run weight next read.1 read.2 read.3 read.0 room c.if-weight-left.false);
     }
 
@@ -86,7 +87,8 @@ returns-clause-ok g c =
     let all = upcoming bytes c.args.place.now in
     let coming = upcoming bytes c.loop-left.place in
     let done = c.loop-left.weights.items in
-    let whole = whole_table g.row.PRECISION c.args.count all done coming c.loop-left.left c.loop-left.invariant.reached c.loop-left-test.false in
+    let whole = whole_table g.row.PRECISION c.args.count all done coming c.loop-left.left c.loop-left.invariant.reached
+    c.loop-left-test.false in
     let others : c.args.count - c.len-2.result ≡ c.args.count - length done = omega (arith, c.len-2.ensures) in
     rw (c.push_zeros-2.ensures.items, others) whole.parts
 
@@ -96,7 +98,8 @@ returns-clause-only g c =
     let all = upcoming bytes c.args.place.now in
     let coming = upcoming bytes c.loop-left.place in
     let done = c.loop-left.weights.items in
-    let whole = whole_table g.row.PRECISION c.args.count all done coming c.loop-left.left c.loop-left.invariant.reached c.loop-left-test.false in
+    let whole = whole_table g.row.PRECISION c.args.count all done coming c.loop-left.left c.loop-left.invariant.reached
+    c.loop-left-test.false in
     let others : c.args.count - c.len-2.result ≡ c.args.count - length done = omega (arith, c.len-2.ensures) in
     rw (c.push_zeros-2.ensures.items, others) whole.only
 

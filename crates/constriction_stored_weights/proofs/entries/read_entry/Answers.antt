@@ -8,7 +8,8 @@ use Rattle.constriction_stored_weights.proofs.entries.read_entry.Goals as goal
 pub returns-in_default-clause-cut : goal.returns-in_default-clause-cut
 returns-in_default-clause-cut c = λ is entry.
     let first = begins_with_number (upcoming c.args.bytes.now c.args.place.now) entry in
-    no_number_yet (upcoming c.args.bytes.now c.args.place.now) (c.read_number.ensures.none c.in_default.is) first.0 first.2.0 first.1 first.2.1
+    no_number_yet (upcoming c.args.bytes.now c.args.place.now) (c.read_number.ensures.none c.in_default.is) first.0 first.2.0 first.1
+    first.2.1
 
 pub returns-then-first-gt0-clause-ok : goal.returns-then-first-gt0-clause-ok
 returns-then-first-gt0-clause-ok c =
@@ -32,8 +33,8 @@ returns-then-zeros-eq0-clause-not_a_table c = λ is more entry.
     let second = c.in-Some-read_number.ensures.some in
     let after = run_after (up ++ more) (up2 ++ more) c.in-Some.first (extended up (number_bits c.in-Some.first) up2 more first.1)
     c.if-first-gt0.false entry in
-    let same = same_number c.in-Some-read_number.zeros entry.run (up3 ++ more) (number_bits entry.weight ++ entry.rest) second.0 entry.run_fits
-    (sym (extended up2 (number_bits c.in-Some-read_number.zeros) up3 more second.1) ∙ after.0) in
+    let same = same_number c.in-Some-read_number.zeros entry.run (up3 ++ more) (number_bits entry.weight ++ entry.rest) second.0
+    entry.run_fits (sym (extended up2 (number_bits c.in-Some-read_number.zeros) up3 more second.1) ∙ after.0) in
     omega (arith, same.0, after.1, c.if-zeros-eq0.true)
 
 pub returns-in_default-read_number-2-clause-cut : goal.returns-in_default-read_number-2-clause-cut
@@ -43,10 +44,10 @@ returns-in_default-read_number-2-clause-cut c = λ is entry.
     let second = c.in-Some-read_number.ensures.some in
     let after = run_after (upcoming bytes c.args.place.now) (upcoming bytes c.read_number.new.place) c.in-Some.first first.1
     c.if-first-gt0.false entry in
-    let same = same_number c.in-Some-read_number.zeros entry.run (upcoming bytes c.read_number-2.new.place) (number_bits entry.weight ++ entry.rest)
-    second.0 entry.run_fits (sym second.1 ∙ after.0) in
-    no_number_yet (upcoming bytes c.read_number-2.new.place) (c.read_number-3.ensures.none c.in_default-read_number-2.is) entry.weight entry.rest
-    entry.weight_fits same.1
+    let same = same_number c.in-Some-read_number.zeros entry.run (upcoming bytes c.read_number-2.new.place)
+    (number_bits entry.weight ++ entry.rest) second.0 entry.run_fits (sym second.1 ∙ after.0) in
+    no_number_yet (upcoming bytes c.read_number-2.new.place) (c.read_number-3.ensures.none c.in_default-read_number-2.is) entry.weight
+    entry.rest entry.weight_fits same.1
 
 pub returns-then-weight-eq0-clause-not_a_table : goal.returns-then-weight-eq0-clause-not_a_table
 returns-then-weight-eq0-clause-not_a_table c = λ is more entry.
@@ -60,8 +61,8 @@ returns-then-weight-eq0-clause-not_a_table c = λ is more entry.
     let third = c.in-Some-read_number-2.ensures.some in
     let after = run_after (up ++ more) (up2 ++ more) c.in-Some.first (extended up (number_bits c.in-Some.first) up2 more first.1)
     c.if-first-gt0.false entry in
-    let same = same_number c.in-Some-read_number.zeros entry.run (up3 ++ more) (number_bits entry.weight ++ entry.rest) second.0 entry.run_fits
-    (sym (extended up2 (number_bits c.in-Some-read_number.zeros) up3 more second.1) ∙ after.0) in
+    let same = same_number c.in-Some-read_number.zeros entry.run (up3 ++ more) (number_bits entry.weight ++ entry.rest) second.0
+    entry.run_fits (sym (extended up2 (number_bits c.in-Some-read_number.zeros) up3 more second.1) ∙ after.0) in
     let last = same_number c.in-Some-read_number-2.weight entry.weight (up4 ++ more) entry.rest third.0 entry.weight_fits
     (sym (extended up3 (number_bits c.in-Some-read_number-2.weight) up4 more third.1) ∙ same.1) in
     let some = entry.some in

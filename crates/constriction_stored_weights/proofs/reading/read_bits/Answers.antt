@@ -30,9 +30,11 @@ returns-in_err-number-clause-none c = λ is.
 doubles : (above at : ℕ) → above * 2 ^ (at + 1) ≡ 2 * (above * 2 ^ at)
 doubles above at = ap (λ k. above * 2 ^ k) (add-one at) ∙ ap (λ k. above * k) (pow-suc 2 at) ∙ grind arith
 
-read_more : (at number bit : ℕ) (old rest new : List ℕ) → bit < 2 → old ≡ bits at number ++ rest → rest ≡ bit ∷ new → old ≡ bits (at + 1) (2 * number + bit) ++ new
+read_more : (at number bit : ℕ) (old rest new : List ℕ) → bit < 2 → old ≡ bits at number ++ rest → rest ≡ bit ∷ new
+    → old ≡ bits (at + 1) (2 * number + bit) ++ new
 read_more at number bit old rest new small e is =
-    e ∙ ap (λ xs. bits at number ++ xs) is ∙ sym (append_assoc (bits at number) (bit ∷ []) new) ∙ ap (λ xs. xs ++ new) (sym (bits-more at number bit small))
+    e ∙ ap (λ xs. bits at number ++ xs) is ∙ sym (append_assoc (bits at number) (bit ∷ []) new)
+    ∙ ap (λ xs. xs ++ new) (sym (bits-more at number bit small))
 
 pub loop-at-preserved : goal.loop-at-preserved
 loop-at-preserved c =

@@ -14,8 +14,8 @@ full bytes longer filled byte bit seven small e =
 
 pub returns-in_ok-push-clause-ok : goal.returns-in_ok-push-clause-ok
 returns-in_ok-push-clause-ok c =
-    full c.args.bytes.now.items c.push.new.self.items c.args.place.now.filled c.args.place.now.byte c.args.bit c.if-place-eq7.true c.requires
-    c.in_ok-push.ensures.items
+    full c.args.bytes.now.items c.push.new.self.items c.args.place.now.filled c.args.place.now.byte c.args.bit c.if-place-eq7.true
+    c.requires c.in_ok-push.ensures.items
 
 pub returns-else-place-eq7-clause-ok : goal.returns-else-place-eq7-clause-ok
 returns-else-place-eq7-clause-ok c =

@@ -13,7 +13,8 @@ pub quantile_function-requires : goal.quantile_function-requires
 quantile_function-requires g c =
     let below = is_below g.row.PRECISION c.args.quantile c.if-quantile-ne0.false in
     let same : g.Word.WholeNumber.whole c.narrowed.result ≡ c.args.quantile =
-    c.narrowed.ensures ∙ narrowed_same g.Word.WholeNumber.BITS g.row.PRECISION c.args.quantile (contiguous-precise c.args.model.now).fits below in
+    c.narrowed.ensures
+    ∙ narrowed_same g.Word.WholeNumber.BITS g.row.PRECISION c.args.quantile (contiguous-precise c.args.model.now).fits below in
     (lit< tt, rw same below)
 
 pub returns : goal.returns

@@ -10,11 +10,13 @@ returns-then-last-eq0 g c = λ tiles m some e.
     let before = c.in_ok-before.before.now in
     let ends = c.in_ok-before.ensures in
     elim c.then-last-eq0.branch [
-      | then-last-eq0-via-then-last-eq0 w ↦ omega (arith, w.if-last-eq0.true, some, uniform-many whole precision before ends.0 ends.1 tiles m some e)
+      | then-last-eq0-via-then-last-eq0 w ↦
+          omega (arith, w.if-last-eq0.true, some, uniform-many whole precision before ends.0 ends.1 tiles m some e)
       | then-last-eq0-via-else-last-eq0+then-last-quantiles w ↦
           omega (arith, w.if-last-quantiles.true, c.quantiles-quantiles.ensures, few whole precision before ends.0 ends.1 tiles)
       | then-last-eq0-via-else-last-eq0+else-last-quantiles+then-not-all_have_number w ↦
-          let wrong = w.if-not-all_have_number.ensures.1 (rw c.quantiles-quantiles.ensures (uniform-before whole precision before ends.0 ends.1 tiles m some e)) in
+          let wrong = w.if-not-all_have_number.ensures.1
+          (rw c.quantiles-quantiles.ensures (uniform-before whole precision before ends.0 ends.1 tiles m some e)) in
           absurd (cc)
     ]
 

@@ -12,24 +12,24 @@ pub returns-then-self-clause-entry : goal.returns-then-self-clause-entry
 returns-then-self-clause-entry g c =
     let m = c.args.self.now in
     let rows = side-right g.A.Predictor.rows g.B.Predictor.rows g.C.Context.number
-    (pair_state (g.A.Predictor.state m.left) (context_state (map g.B.Predictor.state m.rights.items) (g.C.Context.state m.context)) m.is_right)
-    c.if-self.true in
+    (pair_state (g.A.Predictor.state m.left) (context_state (map g.B.Predictor.state m.rights.items) (g.C.Context.state m.context))
+    m.is_right) c.if-self.true in
     none-left g.A.Model.EncoderModel.symbol_eq g.B.Model.EncoderModel.symbol_eq _ _ rows c.args.symbol.now c.in-Left.symbol c.in-Left.is
 
 pub returns-then-not-self-clause-entry : goal.returns-then-not-self-clause-entry
 returns-then-not-self-clause-entry g c =
     let m = c.args.self.now in
     let rows = side-left g.A.Predictor.rows g.B.Predictor.rows g.C.Context.number
-    (pair_state (g.A.Predictor.state m.left) (context_state (map g.B.Predictor.state m.rights.items) (g.C.Context.state m.context)) m.is_right)
-    c.if-not-self.true in
+    (pair_state (g.A.Predictor.state m.left) (context_state (map g.B.Predictor.state m.rights.items) (g.C.Context.state m.context))
+    m.is_right) c.if-not-self.true in
     none-right g.A.Model.EncoderModel.symbol_eq g.B.Model.EncoderModel.symbol_eq _ _ rows c.args.symbol.now c.in-Right.symbol c.in-Right.is
 
 pub returns-else-self-clause-entry : goal.returns-else-self-clause-entry
 returns-else-self-clause-entry g c =
     let m = c.args.self.now in
     let rows = side-left g.A.Predictor.rows g.B.Predictor.rows g.C.Context.number
-    (pair_state (g.A.Predictor.state m.left) (context_state (map g.B.Predictor.state m.rights.items) (g.C.Context.state m.context)) m.is_right)
-    c.if-self.false in
+    (pair_state (g.A.Predictor.state m.left) (context_state (map g.B.Predictor.state m.rights.items) (g.C.Context.state m.context))
+    m.is_right) c.if-self.false in
     c.entry_in_coder_words.ensures
     ∙ entry-left g.A.Model.EncoderModel.symbol_eq g.B.Model.EncoderModel.symbol_eq _ _ (rows ∙ ap (with_symbols Left) (sym c.model.ensures))
     c.args.symbol.now c.in-Left.symbol c.in-Left.is
@@ -45,8 +45,8 @@ returns-else-not-self-clause-entry g c =
     let found = state-found m.rights.items c.index.result c.index-in-Right.result.now c.index-in-Right.ensures g.C.Context.number
     (g.C.Context.state m.context) _ c.index.ensures.number (sym m.each) c.index.ensures.below g.B.Predictor.state in
     let rows = side-right g.A.Predictor.rows g.B.Predictor.rows g.C.Context.number
-    (pair_state (g.A.Predictor.state m.left) (context_state (map g.B.Predictor.state m.rights.items) (g.C.Context.state m.context)) m.is_right)
-    c.if-not-self.false ∙ ap (λ o. with_symbols Right (rows_if_any g.B.Predictor.rows o)) found in
+    (pair_state (g.A.Predictor.state m.left) (context_state (map g.B.Predictor.state m.rights.items) (g.C.Context.state m.context))
+    m.is_right) c.if-not-self.false ∙ ap (λ o. with_symbols Right (rows_if_any g.B.Predictor.rows o)) found in
     c.entry_in_coder_words-in-Right.ensures
     ∙ entry-right g.A.Model.EncoderModel.symbol_eq g.B.Model.EncoderModel.symbol_eq _ _
     (rows ∙ ap (with_symbols Right) (sym c.model-in-Right.ensures)) c.args.symbol.now c.in-Right.symbol c.in-Right.is

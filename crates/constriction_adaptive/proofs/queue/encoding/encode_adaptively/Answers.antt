@@ -10,7 +10,8 @@ pub loop-symbol-preserved : goal.loop-symbol-preserved
 loop-symbol-preserved g c = record {
   so_far =
       coded-take g.P.Predictor.next
-      (λ s. IsNarrowed (entry_at (predicted_entry g.P.Predictor.rows g.P.Model.EncoderModel.symbol_eq) s) g.row.PRECISION) c.args.symbols.now
+      (λ s. IsNarrowed (entry_at (predicted_entry g.P.Predictor.rows g.P.Model.EncoderModel.symbol_eq) s) g.row.PRECISION)
+      c.args.symbols.now
       c.loop-symbol.symbol-index c.symbol-item.result c.loop-symbol-test.true c.symbol-item.is _ _ _ _ c.loop-symbol.invariant.so_far _ _
       c.in-Ok.ensures.ok c.in-Ok.ensures.learned;
   tile =

@@ -8,7 +8,8 @@ use Rattle.constriction_adaptive.proofs.queue.encoding.encode_adaptively.Given a
 abbrev pub invariant-loop-symbol : goal.invariant-loop-symbol
 invariant-loop-symbol g l = record {
   so_far : AreCoded g.P.Predictor.next
-      (λ s. IsNarrowed (entry_at (predicted_entry g.P.Predictor.rows g.P.Model.EncoderModel.symbol_eq) s) g.row.PRECISION) (take l.symbol-index l.symbols)
+      (λ s. IsNarrowed (entry_at (predicted_entry g.P.Predictor.rows g.P.Model.EncoderModel.symbol_eq) s) g.row.PRECISION)
+      (take l.symbol-index l.symbols)
       (g.P.Predictor.state l.initial.predictor) l.initial.encoder (g.P.Predictor.state l.predictor) l.encoder;
   tile : AllTile g.P.Predictor.rows g.P.Predictor.next g.row.PRECISION (g.P.Predictor.state l.initial.predictor)
       (take l.symbol-index l.symbols);

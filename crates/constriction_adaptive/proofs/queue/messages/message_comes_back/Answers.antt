@@ -42,8 +42,8 @@ returns-in-Err-decode_message g c = record {
       let known = append-nil words ∙ sym c.new_at_write_beginning-source.ensures.ahead in
       let message : IsMessageFrom (predicted_entry g.P.Predictor.rows g.P.Model.EncoderModel.symbol_eq) g.P.Predictor.next g.row.PRECISION
       (g.P.Predictor.state c.args.decoding.now) c.args.symbols.now words = rw c.requires c.in-Ok.ensures.ok in
-      c.in-Err-decode_message.ensures.valid (ap Err (of-decoding _ _ _ refl is)) c.args.symbols.now words [] refl message (λ k d h. absurd (omega (arith, h)))
-      known;
+      c.in-Err-decode_message.ensures.valid (ap Err (of-decoding _ _ _ refl is)) c.args.symbols.now words [] refl message
+      (λ k d h. absurd (omega (arith, h))) known;
   err = λ error is. absurd (not-decoding _ _ _ is refl);
   refused = λ error is. absurd (not-decoding _ _ _ is refl);
 }

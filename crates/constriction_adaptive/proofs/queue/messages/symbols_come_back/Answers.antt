@@ -13,8 +13,8 @@ returns g c =
     let next = g.P.Predictor.next in
     let gives = g.Source.ReadWords.read_gives in
     let tells = g.Source.ReadWords.tells_upcoming in
-    range-back (placed next) (λ state symbol. (state, symbol)) next (λ state. refl) (λ state x xs. refl) (entry_at (predicted_entry rows eq))
-    g.row.PRECISION _ g.met.P.Predictor.next_law (IsReadIn rows Stands eq g.row.PRECISION gives) tells
+    range-back (placed next) (λ state symbol. (state, symbol)) next (λ state. refl) (λ state x xs. refl)
+    (entry_at (predicted_entry rows eq)) g.row.PRECISION _ g.met.P.Predictor.next_law (IsReadIn rows Stands eq g.row.PRECISION gives) tells
     (g.met.P.Model.EntropyModel.precision_law c.model-model.result.now).positive
     (λ state symbol answer old new words now later fit e lies here d.
     range-symbol-back Stands eq (predicted_entry rows eq state) (rows state) gives tells 32 g.row.PRECISION d.tile d.alike

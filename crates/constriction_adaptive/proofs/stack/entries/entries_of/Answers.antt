@@ -13,7 +13,8 @@ loop-symbol-preserved g c =
     let both = entries-take g.P.Predictor.next c.args.symbols.now c.loop-symbol.symbol-index c.symbol-item.result c.loop-symbol-test.true
     c.symbol-item.is (g.P.Predictor.state c.args.predictor.now) _ c.loop-symbol.invariant.learned
     (entry_at (predicted_entry g.P.Predictor.rows g.P.Model.EncoderModel.symbol_eq)) g.row.PRECISION
-    (map g.K.StoredEntry.kept c.loop-symbol.entries.items) kept.0 _ c.loop-symbol.invariant.so_far kept.1 c.in-Ok-predict_and_keep.ensures.learned in
+    (map g.K.StoredEntry.kept c.loop-symbol.entries.items) kept.0 _ c.loop-symbol.invariant.so_far kept.1
+    c.in-Ok-predict_and_keep.ensures.learned in
     record { so_far = rw kept.2 both.0; learned = both.1 }
 
 pub returns-in_default : goal.returns-in_default

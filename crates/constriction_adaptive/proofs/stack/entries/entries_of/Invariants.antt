@@ -9,7 +9,8 @@ use Rattle.constriction_adaptive.proofs.stack.entries.entries_of.Given as goal
 abbrev pub invariant-loop-symbol : goal.invariant-loop-symbol
 invariant-loop-symbol g l = record {
   so_far : AllZip (IsEntryAt g.row.PRECISION (entry_at (predicted_entry g.P.Predictor.rows g.P.Model.EncoderModel.symbol_eq)))
-      (placed g.P.Predictor.next (g.P.Predictor.state l.initial.predictor) (take l.symbol-index l.symbols)) (map g.K.StoredEntry.kept l.entries.items);
+      (placed g.P.Predictor.next (g.P.Predictor.state l.initial.predictor) (take l.symbol-index l.symbols))
+      (map g.K.StoredEntry.kept l.entries.items);
   learned : g.P.Predictor.state l.predictor
       ≡ fold g.P.Predictor.next (g.P.Predictor.state l.initial.predictor) (take l.symbol-index l.symbols);
 }

@@ -27,7 +27,8 @@ put_entry-requires-clause-some g c =
     (entry-lies (entry_at (predicted_entry g.P.Predictor.rows g.P.Model.EncoderModel.symbol_eq)) g.row.PRECISION _
     (map g.K.StoredEntry.kept c.args.entries.now) i c.read-left.result c.requires.entries.2
     (omega (arith, less, length-map c.args.entries.now g.K.StoredEntry.kept))
-    (kept-at g.K.StoredEntry.kept c.args.entries.now i c.index-entries-count.result c.read-left.result less c.index-entries-count.is c.read-left.ensures)).1.some
+    (kept-at g.K.StoredEntry.kept c.args.entries.now i c.index-entries-count.result c.read-left.result less c.index-entries-count.is
+    c.read-left.ensures)).1.some
 
 pub put_entry-requires-clause-within : goal.put_entry-requires-clause-within
 put_entry-requires-clause-within g c =
@@ -36,7 +37,8 @@ put_entry-requires-clause-within g c =
     (entry-lies (entry_at (predicted_entry g.P.Predictor.rows g.P.Model.EncoderModel.symbol_eq)) g.row.PRECISION _
     (map g.K.StoredEntry.kept c.args.entries.now) i c.read-left.result c.requires.entries.2
     (omega (arith, less, length-map c.args.entries.now g.K.StoredEntry.kept))
-    (kept-at g.K.StoredEntry.kept c.args.entries.now i c.index-entries-count.result c.read-left.result less c.index-entries-count.is c.read-left.ensures)).1.within
+    (kept-at g.K.StoredEntry.kept c.args.entries.now i c.index-entries-count.result c.read-left.result less c.index-entries-count.is
+    c.read-left.ensures)).1.within
 
 pub loop-done-preserved : goal.loop-done-preserved
 loop-done-preserved g c =
@@ -66,7 +68,8 @@ returns-in-Err-clause-err g c first symbols are =
     let next = g.P.Predictor.next in
     let i : ℕ = length c.args.entries.now - 1 - c.loop-done.done in
     let before : length c.args.entries.now - c.loop-done.done ≡ suc i = omega (arith, c.loop-done-test.true) in
-    let many = AllZip-long (IsEntryAt g.row.PRECISION entry) (placed next first symbols) (map g.K.StoredEntry.kept c.args.entries.now) are in
+    let many = AllZip-long (IsEntryAt g.row.PRECISION entry) (placed next first symbols) (map g.K.StoredEntry.kept c.args.entries.now)
+    are in
     let long = placed-long next first symbols in
     let mapped = length-map c.args.entries.now g.K.StoredEntry.kept in
     let stops = stacking-stops next (λ s. IsEncoded (entry s) g.row.PRECISION) first symbols i (held_by c.loop-done.coder)
@@ -76,6 +79,6 @@ returns-in-Err-clause-err g c first symbols are =
       stops.1,
       stops.2,
       stops.3,
-      subst (λ (x : Content). InTurn (λ s. IsEncoded (entry s) g.row.PRECISION) (placed next (next (fold next first stops.0) stops.1) stops.2) x
-          (held_by c.args.coder.now)) (sym c.in-Err.ensures.same) stops.4,
+      subst (λ (x : Content). InTurn (λ s. IsEncoded (entry s) g.row.PRECISION)
+          (placed next (next (fold next first stops.0) stops.1) stops.2) x (held_by c.args.coder.now)) (sym c.in-Err.ensures.same) stops.4,
     )

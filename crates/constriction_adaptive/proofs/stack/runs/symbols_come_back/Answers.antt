@@ -11,7 +11,7 @@ returns g c =
     let Stands = g.P.Model.DecoderModel.stands_for in
     let rows = g.P.Predictor.rows in
     let next = g.P.Predictor.next in
-    stack-back (placed next) (λ state symbol. (state, symbol)) next (λ state. refl) (λ state x xs. refl) (entry_at (predicted_entry rows eq))
-    g.row.PRECISION _ g.met.P.Predictor.next_law (IsTakenIn rows Stands eq g.row.PRECISION)
+    stack-back (placed next) (λ state symbol. (state, symbol)) next (λ state. refl) (λ state x xs. refl)
+    (entry_at (predicted_entry rows eq)) g.row.PRECISION _ g.met.P.Predictor.next_law (IsTakenIn rows Stands eq g.row.PRECISION)
     (λ state symbol answer full rest under e d. symbol-back Stands eq (predicted_entry rows eq state) (rows state) 32 g.row.PRECISION d.tile
     d.alike symbol answer full rest under e d.step)

@@ -115,7 +115,8 @@ module _ (X : RattleType) {M : Type 1} {𝓤 : Ura M} (𝓛 : Logic 𝓤)
         sets ! (of_opd ! (load ! (through ! refl (fld ! refl (stop !))) (look_in ! 0 (sub ! 1 refl (whole !)))))
         refl (tt, record { fits = known.0.1.0 }) $
         sets ! (addr ! (through ! refl (fld ! refl (hop ! (look_in ! 0 (sub ! 0 refl (whole !))) (stop !))))) refl (tt, tt) $
-        sets ! (agg ! (and_then ! (get ! refl) (and_then ! (get ! refl) (no_more !)))) refl (tt, (tt, (record { fits = known.0.1.0 }, tt))) $
+        sets ! (agg ! (and_then ! (get ! refl) (and_then ! (get ! refl) (no_more !))))
+        refl (tt, (tt, (record { fits = known.0.1.0 }, tt))) $
         use1 𝓛 (‵ (fat full_share (bare written) rb ro word)) (𝓛.laws.at_raw full_share written rb ro word) $
         closes ! tt Sl h (word ∷ []) rb ro $
         use3 𝓛 (later (some (λ (δ : GName). ‵ ((MutSlice (named 0) κ (R X)).own_val (renamed h δ) (mut_slice_vals h))

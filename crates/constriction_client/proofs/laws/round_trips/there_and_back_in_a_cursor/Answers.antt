@@ -31,13 +31,14 @@ returns-in-Ok g c =
     (as-many entry g.D.Probability.WholeNumber.whole c.args.items.now back.placed.words back.placed.quantiles) in
     record {
       ok =
-          stand-back g.D.DecoderModel.stands_for g.E.EncoderModel.symbol_eq g.met.E.EncoderModel.equality_law entry g.D.Probability.WholeNumber.whole
+          stand-back g.D.DecoderModel.stands_for g.E.EncoderModel.symbol_eq g.met.E.EncoderModel.equality_law entry
+          g.D.Probability.WholeNumber.whole
           g.D.Probability.WholeNumber.BITS g.row.PRECISION (g.D.EntropyModel.rows c.args.decoder.now) c.args.items.now
           c.in-Ok.pairs.items back.placed.words (g.met.D.DecoderModel.tile_law c.args.decoder.now)
           g.met.D.Probability.WholeNumber.same_law c.requires.alike back.placed.quantiles read.0;
       placed =
-          placed-again entry g.D.Probability.WholeNumber.whole g.Buf.SafeBufMut.with_words c.args.cursor.now c.args.items.now Infallible back.reached
-          c.write_and_go_back.new.cursor c.read_back.new.source back.placed back.buf back.pos read.1;
+          placed-again entry g.D.Probability.WholeNumber.whole g.Buf.SafeBufMut.with_words c.args.cursor.now c.args.items.now Infallible
+          back.reached c.write_and_go_back.new.cursor c.read_back.new.source back.placed back.buf back.pos read.1;
       err = tt;
     }
 

@@ -40,7 +40,8 @@ returns-in-Ok g c =
     record {
       ok =
           stand-back-reversed g.D.DecoderModel.stands_for g.E.EncoderModel.symbol_eq g.met.E.EncoderModel.equality_law entry
-          g.D.Probability.WholeNumber.whole g.D.Probability.WholeNumber.BITS g.row.PRECISION (g.D.EntropyModel.rows c.args.decoder.now) c.args.items.now
+          g.D.Probability.WholeNumber.whole g.D.Probability.WholeNumber.BITS g.row.PRECISION (g.D.EntropyModel.rows c.args.decoder.now)
+          c.args.items.now
           c.in-Ok.pairs.items wrote.words (g.met.D.DecoderModel.tile_law c.args.decoder.now) g.met.D.Probability.WholeNumber.same_law
           c.requires.alike wrote.quantiles
           (c.in-Ok.ensures.ok (reverse wrote.words)

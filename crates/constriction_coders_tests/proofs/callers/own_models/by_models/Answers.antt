@@ -32,7 +32,8 @@ loop-answer-preserved g c =
     let step = rw c.in_ok-symbol.was at c.in-Some.ensures.steps in
     let shows : iter_rest (fuse_source c.loop-answer.answer-iterator.models)
     ≡ step.1.0.now ∷ iter_rest (fuse_source c.next.new.self.models) = rw h.goes_on at step.1.1.0 in
-    let more = beside-more answers c.in_ok-symbol.symbol models step.1.0.now (iter_rest (fuse_source c.next.new.self.models)) (h.left ∙ shows) in
+    let more = beside-more answers c.in_ok-symbol.symbol models step.1.0.now (iter_rest (fuse_source c.next.new.self.models))
+    (h.left ∙ shows) in
     record {
       next = (tt, λ _. tt);
       ends = rw step.1.1.1 tt;
@@ -42,8 +43,8 @@ loop-answer-preserved g c =
       left = rw c.in-Ok.ensures.items more.1;
       so_far =
           rw (c.in-Ok.ensures.items, more.0)
-          (turn-last (λ other. IsDecoded g.D.DecoderModel.stands_for (g.D.EntropyModel.rows other.1) g.row.PRECISION other.0) (zip answers models)
-          (c.in_ok-symbol.symbol, step.1.0.now) _ _ _ h.so_far step.1.2.ok);
+          (turn-last (λ other. IsDecoded g.D.DecoderModel.stands_for (g.D.EntropyModel.rows other.1) g.row.PRECISION other.0)
+          (zip answers models) (c.in_ok-symbol.symbol, step.1.0.now) _ _ _ h.so_far step.1.2.ok);
     }
 
 pub returns-clause-count : goal.returns-clause-count

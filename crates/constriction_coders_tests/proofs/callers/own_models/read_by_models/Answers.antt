@@ -33,7 +33,8 @@ loop-answer-preserved g c =
     let step = rw c.in_ok-symbol.was at c.in-Some.ensures.steps in
     let shows : iter_rest (fuse_source c.loop-answer.answer-iterator.models)
     ≡ step.1.0.now ∷ iter_rest (fuse_source c.next.new.self.models) = rw h.goes_on at step.1.1.0 in
-    let more = beside-more answers c.in_ok-symbol.symbol models step.1.0.now (iter_rest (fuse_source c.next.new.self.models)) (h.left ∙ shows) in
+    let more = beside-more answers c.in_ok-symbol.symbol models step.1.0.now (iter_rest (fuse_source c.next.new.self.models))
+    (h.left ∙ shows) in
     record {
       next = c.in-Some.ensures.goes.keeps;
       ends = rw step.1.1.1 tt;
@@ -43,8 +44,8 @@ loop-answer-preserved g c =
       left = rw c.in-Ok.ensures.items more.1;
       so_far =
           rw (c.in-Ok.ensures.items, more.0)
-          (turn-last (λ other. IsRead g.D.DecoderModel.stands_for (g.D.EntropyModel.rows other.1) g.Source.ReadWords.read_gives g.row.PRECISION other.0) (zip answers models)
-          (c.in_ok-symbol.symbol, step.1.0.now) _ _ _ h.so_far step.1.2.ok);
+          (turn-last (λ other. IsRead g.D.DecoderModel.stands_for (g.D.EntropyModel.rows other.1) g.Source.ReadWords.read_gives
+          g.row.PRECISION other.0) (zip answers models) (c.in_ok-symbol.symbol, step.1.0.now) _ _ _ h.so_far step.1.2.ok);
     }
 
 pub returns-clause-count : goal.returns-clause-count

@@ -4,7 +4,8 @@ use Rattle.constriction_stored_weights.specs.Tables.{BeginsWithTable}
 use Rattle.constriction_coders_tests.proofs.callers.tables.second_of_two.Goals as goal
 
 -- what is left when as many bytes are taken as a front has
-left_after : (bytes front rest : List ℕ) (taken : ℕ) → bytes ≡ front ++ rest → taken ≤ length bytes → front ≡ take taken bytes → drop taken bytes ≡ rest
+left_after : (bytes front rest : List ℕ) (taken : ℕ) → bytes ≡ front ++ rest → taken ≤ length bytes → front ≡ take taken bytes
+    → drop taken bytes ≡ rest
 left_after bytes front rest taken e within is =
     let long : length front ≡ taken = omega (arith, ap length is, length-take taken bytes) in
     ap (drop taken) e ∙ drop_at front rest taken long

@@ -11,7 +11,11 @@ model_of_table-requires g c =
       omega arith,
       (
         c.requires.precision,
-        (_, c.in_ok-table.ensures.held, weighted-tile g.Entry.TableEntry.symbol_of 32 g.row.PRECISION c.args.probabilities.now narrow total),
+        (
+          _,
+          c.in_ok-table.ensures.held,
+          weighted-tile g.Entry.TableEntry.symbol_of 32 g.row.PRECISION c.args.probabilities.now narrow total,
+        ),
       ),
     )
 

@@ -16,8 +16,8 @@ is_row : (g : Over) (c : goal.After-to_weight g) → IsRowOf (table_model_rows c
 is_row g c =
     let m = c.args.self.now in
     let below : c.args.quantile < length m.entries.items = omega (arith, c.requires.in_range, m.full) in
-    read-parts g.Entry.TableEntry.number g.met.Entry.TableEntry.same_law g.Entry.TableEntry.row_in 32 g.row.PRECISION m.entries.items m.table
-    c.args.quantile c.index-entry.result.now below c.index-entry.ensures _ _ _ c.symbol.ensures c.left_cumulative.ensures
+    read-parts g.Entry.TableEntry.number g.met.Entry.TableEntry.same_law g.Entry.TableEntry.row_in 32 g.row.PRECISION m.entries.items
+    m.table c.args.quantile c.index-entry.result.now below c.index-entry.ensures _ _ _ c.symbol.ensures c.left_cumulative.ensures
     (c.to_weight.ensures ∙ c.weight.ensures.value)
 
 pub returns-clause-row : goal.returns-clause-row
