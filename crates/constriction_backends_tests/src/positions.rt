@@ -35,7 +35,7 @@ impl Seek for Place {
     }
 }
 
-fn there_and_back<P: Pos + Seek>(place: &mut P, to: P::Position) -> Result<(), ()> {
+fn sought_and_back<P: Pos + Seek>(place: &mut P, to: P::Position) -> Result<(), ()> {
     let from = place.pos();
     place.seek(to)?;
     place.seek(from)
@@ -48,7 +48,7 @@ fn a_position_is_sought_back(rt: HostRuntime) {
         &rt,
         (
             (place.seek(11), place.pos()),
-            (there_and_back(&mut place, 10), place.pos()),
+            (sought_and_back(&mut place, 10), place.pos()),
             (place.seek(10), place.pos()),
         ),
         ((Err(()), 3), (Ok(()), 3), (Ok(()), 10)),

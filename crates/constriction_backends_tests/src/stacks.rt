@@ -25,7 +25,7 @@ where
 }
 
 /// The word that comes back from a `Vec`, or an error if memory is refused.
-fn there_and_back_in_a_vec(words: &mut Vec<u8>, word: u8) -> Result<Option<u8>, AllocError> {
+fn pushed_and_popped(words: &mut Vec<u8>, word: u8) -> Result<Option<u8>, AllocError> {
     match laws::push_then_pop(words, word) {
         Ok(word) => Ok(word),
         Err(ReadWriteError::Write(error)) => Err(error),
@@ -52,7 +52,7 @@ fn what_was_pushed_is_popped(rt: HostRuntime) {
     laws::seek_back::<u8>();
     laws::extending_tells::<u8, Vec<u8>, Copied<Iter<'_, u8>>>();
     let mut words = Vec::new(rt.alloc());
-    if let Ok(word) = there_and_back_in_a_vec(&mut words, 7) {
+    if let Ok(word) = pushed_and_popped(&mut words, 7) {
         same(&rt, word, Some(7));
     }
     assert!(rt; words.is_empty());
@@ -92,7 +92,7 @@ fn a_popped_word_leaves_its_place(rt: HostRuntime) {
 
 /// Writes two words to any stack and reads them, as a stack coder does. They come back, the second
 /// one first, and then the stack has its old words.
-fn there_and_back<Backend: WordStack<u8>>(
+fn two_written_and_read<Backend: WordStack<u8>>(
     backend: &mut Backend,
     first: u8,
     second: u8,
@@ -125,7 +125,7 @@ where
     Backend::ReadError: Drop,
 {
     let mut backend = backend;
-    let read = there_and_back(&mut backend, 1, 2);
+    let read = two_written_and_read(&mut backend, 1, 2);
     same(rt, read, Some((Some(2), Some(1))));
 }
 

@@ -1,5 +1,5 @@
 use Rattle.std.proofs.Common.{[], ◌∷◌, ◌++◌, Ok, Some, ap, ◌∙◌}
-use Rattle.constriction_backends_tests.proofs.stacks.there_and_back.Goals as goal
+use Rattle.constriction_backends_tests.proofs.stacks.two_written_and_read.Goals as goal
 
 pub returns : goal.returns
 returns g c =
