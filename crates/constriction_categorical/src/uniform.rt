@@ -1,6 +1,6 @@
 //! The walk through the rows of a uniform model.
 
-ghost use Rattle.std.specs.Prelude.{◌≡◌, ◌+◌};
+ghost use Rattle.std.specs.Prelude.{◌+◌};
 ghost use Rattle.constriction_model.specs.Rows.{uniform_rows};
 ghost use Rattle.constriction_model.specs.Tables.{rows_between};
 ghost use Rattle.constriction_model.specs.lemmas.UniformRows.{uniform-tiles};
