@@ -3,7 +3,7 @@ use mathlib.Core.Path.{refl}
 use Prim.Native.Nat.{ℕ, ◌^◌, ◌<◌, ◌*◌}
 use mathlib.Core.List.{List, [], ◌∷◌}
 use seplogic.Ra.Ura.{Ura}
-use mir.Syntax.{Args, Fn, Ty, named, erased, mut, a_type, a_number, ty_ref, ty_param, ty_array_p}
+use mir.Syntax.{Args, Fn, named, a_type, a_number}
 use mir.MapTy.{inst_fn}
 use mir.Val.{Val, vptr}
 use base.Logic.{SProp, ent}
@@ -60,9 +60,6 @@ module _ (X : RattleType) (n : ℕ) where
 
   abbrev stayed : Stays ended.signature.params ended.kept
   stayed = (stay_dropped (mut_ref_to (0 ∷ []) tt (plain (λ _. Run))) no, tt)
-
-  abbrev written : Ty
-  written = ty_ref erased mut (ty_array_p (ty_param 0) 1)
 
 module _ (X : RattleType) (n : ℕ) {M : Type 1} {𝓤 : Ura M} (𝓛 : Logic 𝓤)
     (at_mem : Memory → SProp 𝓤) (run : Routine → Fun 𝓤) where
