@@ -1,8 +1,9 @@
 -- A step of a range decoder, from its arithmetic.
-use Rattle.std.proofs.Common.{◌≡◌, ℕ, ◌+◌, ◌-◌, ◌*◌, ◌/◌, ◌^◌, ◌<◌, ◌≤◌, List, Option, Result, Ok, ap, ◌∙◌, subst, arith, inl, inr}
+use Rattle.std.proofs.Common.{◌≡◌, ℕ, ◌+◌, ◌-◌, ◌*◌, ◌/◌, ◌^◌, ◌<◌, ◌≤◌, Bool, true, false, List, [], ◌∷◌, Contains}
+use Rattle.std.proofs.Common.{IsFalse, IsTrue, Option, Result, refl, subst, arith}
 use Rattle.std.proofs.lemmas.Nat.{mul-le}
-use Rattle.constriction_model.specs.Rows.{Row, IsRowOf}
-use Rattle.constriction_coders.specs.Intervals.{interval, word_or_zero, HoldsPoint, IsRead, held_of}
+use Rattle.constriction_model.specs.Rows.{Row, rows_of}
+use Rattle.constriction_coders.specs.Intervals.{interval, Held, IsRead, IsWidenedByRead, held_of}
 
 module _ (offset unit quantile left weight : ℕ) (from : unit * quantile ≤ offset) (to : offset < unit * (quantile + 1))
     (first : left ≤ quantile) (last : quantile < left + weight) where
@@ -31,50 +32,42 @@ part_within precision range unit left weight within fits =
     omega (arith, within, mul-le unit weight unit (2 ^ precision) (omega arith) (omega (arith, fits)))
 
 module _ {Symbol S E : Type 0} (Stands : Symbol → Symbol → Type 0) (rows : List (Row Symbol))
-    (gives : S → Result (Option ℕ) E → S → Type 0) (precision : ℕ) (own answer : Symbol) (range offset unit left weight quantile : ℕ)
-    (from to : S) (is : unit ≡ range / 2 ^ precision) (found : IsRowOf rows quantile
-    (record { symbol = own; left = left; weight = weight }))
-    (stands : Stands own answer) (low : unit * left ≤ offset) (high : offset < unit * (left + weight)) where
-  holds : HoldsPoint precision left weight (interval range offset)
-  holds = record {
-    from = subst (λ u. u * left ≤ offset) is low;
-    to = subst (λ u. offset < u * (left + weight)) is high;
+    (gives : S → Result (Option ℕ) E → S → Type 0) (precision range offset unit : ℕ) (is : unit ≡ range / 2 ^ precision) where
+  -- a symbol was read if the part of its row, in which the point lies, is held next
+  pub read_part : (own answer : Symbol) (left weight part_range part_offset : ℕ)
+      → Contains rows (record { symbol = own; left = left; weight = weight }) → Stands own answer
+      → unit * left ≤ offset → offset < unit * (left + weight) → part_range ≡ unit * weight → part_offset ≡ offset - unit * left
+      → (from : S) (new : Held S) → IsWidenedByRead gives (interval part_range part_offset) from new.held new.source
+      → IsRead Stands rows gives precision answer (held_of range offset from) new
+  read_part own answer left weight part_range part_offset among stands low high r o from new next = record {
+    row = record { symbol = own; left = left; weight = weight };
+    among = among;
+    stands = stands;
+    holds = record {
+      from = subst (λ u. u * left ≤ offset) is low;
+      to = subst (λ u. offset < u * (left + weight)) is high;
+    };
+    next =
+        subst (λ u. IsWidenedByRead gives (interval (u * weight) (offset - u * left)) from new.held new.source) is
+        (subst (λ n. IsWidenedByRead gives (interval (unit * weight) n) from new.held new.source) o
+        (subst (λ n. IsWidenedByRead gives (interval n part_offset) from new.held new.source) r next));
   }
 
-  -- a part that is not small is held next
-  pub read_wide : (new_range new_offset : ℕ) → new_range ≡ unit * weight → new_offset ≡ offset - unit * left → 2 ^ 32 ≤ new_range
-      → to ≡ from
-      → IsRead Stands rows gives precision answer (held_of range offset from) (held_of new_range new_offset to)
-  read_wide new_range new_offset r o wide same = record {
-    row = record { symbol = own; left = left; weight = weight };
-    among = found.among;
-    stands = stands;
-    holds = holds;
-    next = inl (
-      subst (λ u. 2 ^ 32 ≤ u * weight) is (subst (λ n. 2 ^ 32 ≤ n) r wide),
-      subst (λ u. interval new_range new_offset ≡ interval (u * weight) (offset - u * left)) is
-          (ap (λ n. interval n new_offset) r ∙ ap (λ n. interval (unit * weight) n) o),
-      same,
-    );
-  }
-
-  -- a small part is widened by a word
-  pub read_small : (part_range part_offset word new_range new_offset : ℕ) → part_range ≡ unit * weight
-      → part_offset ≡ offset - unit * left → part_range < 2 ^ 32 → new_range ≡ part_range * 2 ^ 32
-      → new_offset ≡ part_offset * 2 ^ 32 + word → (asked : Option ℕ) → gives from (Ok asked) to → word ≡ word_or_zero asked
-      → IsRead Stands rows gives precision answer (held_of range offset from) (held_of new_range new_offset to)
-  read_small part_range part_offset word new_range new_offset r o small wider further asked read is_word = record {
-    row = record { symbol = own; left = left; weight = weight };
-    among = found.among;
-    stands = stands;
-    holds = holds;
-    next = inr (
-      subst (λ u. u * weight < 2 ^ 32) is (subst (λ n. n < 2 ^ 32) r small),
-      asked,
-      read,
-      subst (λ u. interval new_range new_offset ≡ interval (u * weight * 2 ^ 32) ((offset - u * left) * 2 ^ 32 + word_or_zero asked)) is
-          (ap (λ n. interval n new_offset) (wider ∙ ap (λ n. n * 2 ^ 32) r)
-          ∙ ap (λ n. interval (unit * weight * 2 ^ 32) n) (further ∙ ap (λ n. n * 2 ^ 32 + word) o
-          ∙ ap (λ n. (offset - unit * left) * 2 ^ 32 + n) is_word)),
-    );
-  }
+module _ {S E : Type 0} (gives : S → Result (Option ℕ) E → S → Type 0) (precision range offset weight unit : ℕ)
+    (is : unit ≡ range / 2 ^ precision) where
+  -- so it is with a bit
+  pub read_bit : (bit : Bool) (part_range part_offset : ℕ)
+      → (IsFalse bit → (part_range ≡ unit * weight) × (part_offset ≡ offset))
+      → (IsTrue bit → (part_range ≡ unit * (2 ^ precision - weight)) × (unit * weight ≤ offset) × (part_offset ≡ offset - unit * weight))
+      → part_offset < part_range → (from : S) (new : Held S)
+      → IsWidenedByRead gives (interval part_range part_offset) from new.held new.source
+      → IsRead (λ s t. t ≡ s) (rows_of (false ∷ true ∷ []) (weight ∷ (2 ^ precision - weight) ∷ [])) gives precision bit
+      (held_of range offset from) new
+  read_bit false part_range part_offset first second inside =
+      let p = first refl in
+      read_part _ _ gives precision range offset unit is false false 0 weight part_range part_offset (0, omega arith, refl) refl
+      (omega arith) (omega (arith, inside, p.0, p.1)) p.0 (omega (arith, p.1))
+  read_bit true part_range part_offset first second inside =
+      let p = second refl in
+      read_part _ _ gives precision range offset unit is true true (0 + weight) (2 ^ precision - weight) part_range part_offset
+      (1, omega arith, refl) refl (omega (arith, p.1)) (omega (arith, inside, p.0, p.1, p.2)) p.0 (omega (arith, p.2))

@@ -1,5 +1,6 @@
 //! A range coder: what was encoded first is decoded first.
 
+mod bit;
 mod carrying;
 mod decoding;
 mod encoded_words;

@@ -8,7 +8,7 @@ use crate::decode::Decode;
 use crate::entry::symbol_and_entry;
 use crate::model_word::ModelWord;
 use crate::queue::interval::{part_of, quantile_at, unit_of};
-use crate::queue::range_decoder::{DecoderFrontendError, RangeDecoder, next_or_zero};
+use crate::queue::range_decoder::{DecoderFrontendError, RangeDecoder};
 use constriction_backends::ReadWords;
 use constriction_model::DecoderModel;
 use constriction_words::{CoderError, Queue};
@@ -85,17 +85,8 @@ impl<Source: ReadWords<u32, Queue>, const PRECISION: usize> Decode<PRECISION>
             entry.1,
             quantile,
         );
-        if range >= 1 << 32 {
-            self.range = range;
-            self.offset = offset;
-            return Ok(symbol);
-        }
-        match next_or_zero(&mut self.words) {
-            Ok(word) => {
-                self.range = range << 32;
-                self.offset = (offset << 32) + word as u64;
-                Ok(symbol)
-            }
+        match self.hold(range, offset) {
+            Ok(()) => Ok(symbol),
             Err(error) => Err(CoderError::Backend(error)),
         }
     }

@@ -1,8 +1,8 @@
 //! A range decoder: what was encoded first is decoded first.
 
-ghost use Rattle.std.specs.Prelude.{◌≡◌, ◌≢◌, ◌^◌, ◌<◌, ◌≤◌, [], ℕ, List, Ok, Err, IfOk, IsTrue};
+ghost use Rattle.std.specs.Prelude.{◌≡◌, ◌≢◌, ◌^◌, ◌<◌, ◌≤◌, [], ℕ, List, Ok, Err, IfOk, IsTrue, OnErr, OnOk};
 ghost use Rattle.std.specs.Bool.{OnFalse};
-ghost use Rattle.constriction_coders.specs.Intervals.{word_or_zero, IsStart, MayBeAtEnd};
+ghost use Rattle.constriction_coders.specs.Intervals.{word_or_zero, interval, IsStart, IsWidenedByRead, MayBeAtEnd};
 ghost use Rattle.constriction_coders.specs.RangeLaws.{IsAt};
 ghost use Rattle.constriction_coders.specs.Spans.{whole};
 
@@ -97,6 +97,34 @@ impl<Source: ReadWords<u32, Queue> + Drop> RangeDecoder<Source> {
 
 impl<Source: ReadWords<u32, Queue>> RangeDecoder<Source> {
     ghost use Rattle.constriction_coders.specs.RangeDecoder.{held_by};
+
+    /// Holds a part of the interval, and reads a word if it is small.
+    #[inline]
+    pub(crate) fn hold(&mut self, range: u64, offset: u64) -> Result<(), Source::ReadError>
+        requires can_read { Source.can_read self.old.words }
+        requires inside { offset < range }
+        ensures goes_on { Source.can_read self.new.words }
+        ensures ok { OnOk result (IsWidenedByRead Source.read_gives (interval range offset)
+            self.old.words (held_by self.new).held self.new.words) }
+        ensures inside { OnOk result (self.new.offset < self.new.range) }
+        ensures failed { (error : _) → result ≡ Err error
+            → Source.read_gives self.old.words (Err error) self.new.words }
+        ensures same { OnErr result ((held_by self.new).held ≡ (held_by self.old).held) }
+    {
+        if range >= 1 << 32 {
+            self.range = range;
+            self.offset = offset;
+            return Ok(());
+        }
+        match next_or_zero(&mut self.words) {
+            Ok(word) => {
+                self.range = range << 32;
+                self.offset = (offset << 32) + word as u64;
+                Ok(())
+            }
+            Err(error) => Err(error),
+        }
+    }
 
     /// Whether all symbols may have been decoded. If nothing comes after the words of the message,
     /// `false` says that some are left.
