@@ -1,11 +1,11 @@
-use Rattle.std.proofs.Common.{List, Option, IfSome, map, refl, ap, sym, subst, ◌∙◌}
+use Rattle.std.proofs.Common.{List, map, refl, ap, sym, subst, ◌∙◌}
 use Rattle.std.proofs.lemmas.List.{length-set}
 use Rattle.constriction_model.specs.Rows.{Row, RowsTile}
 use Rattle.either.specs.declared.Either.{Either}
 use Rattle.either.specs.declared.Either.TheVariants.{Left, Right}
 use Rattle.constriction_adaptive.specs.ByContext.{rows_if_any, context_state}
 use Rattle.constriction_adaptive.specs.Pair.{pair_state, with_symbols, without_symbols}
-use Rattle.constriction_adaptive.proofs.ByContextLemmas.{item-found, state-found, states-learned}
+use Rattle.constriction_adaptive.proofs.ByContextLemmas.{state-found, states-learned}
 use Rattle.constriction_adaptive.proofs.PairLemmas.{right-learned, tile-of-side}
 use Rattle.constriction_adaptive.proofs.pair.PairPredictor.learn.Goals as goal
 
@@ -23,14 +23,6 @@ invariant_of-self g c =
           (without_symbols (with_symbols {T = Either g.row.A-Symbol.Denot g.row.B-Symbol.Denot} Right rows)))
           (sym (ap (rows_if_any g.B.Predictor.rows) found)) side;
     }
-
-pub learn-requires-then-self : goal.learn-requires-then-self
-learn-requires-then-self g c =
-    let m = c.args.self.now in
-    subst (λ (o : Option g.row.B.Denot). IfSome o g.B.Predictor.can_learn)
-    (item-found m.rights.items c.index-index.result c.index_mut.result.now c.index_mut.ensures.value g.C.Context.number
-    (g.C.Context.state m.context) _ c.index-index.ensures.number (sym m.each) c.index-index.ensures.below)
-    (c.requires.1 c.if-self.true)
 
 pub invariant_of-self-then-self : goal.invariant_of-self-then-self
 invariant_of-self-then-self g c =

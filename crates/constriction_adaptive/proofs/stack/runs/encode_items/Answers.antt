@@ -9,7 +9,11 @@ pub put_entries-requires : goal.put_entries-requires
 put_entries-requires g c =
     let kept = c.in-Ok.ensures in record {
       precision = c.requires.precision;
-      entries = (g.P.Predictor.state c.args.predictor.now, kept.0, rw c.deref.ensures.value kept.3);
+      entries = record {
+        first = g.P.Predictor.state c.args.predictor.now;
+        symbols = kept.0;
+        each = rw c.deref.ensures.value kept.3;
+      };
     }
 
 pub returns-in-Ok-put_entries : goal.returns-in-Ok-put_entries

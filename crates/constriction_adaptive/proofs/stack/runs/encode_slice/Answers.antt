@@ -7,7 +7,11 @@ returns-in-Err g c = record { ok = tt; err = (c.in-Err.ensures.err, refl) }
 pub put_entries-requires : goal.put_entries-requires
 put_entries-requires g c = record {
   precision = c.requires.precision;
-  entries = (g.P.Predictor.state c.args.predictor.now, c.args.symbols.now, rw c.deref.ensures.value c.in-Ok.ensures.ok);
+  entries = record {
+    first = g.P.Predictor.state c.args.predictor.now;
+    symbols = c.args.symbols.now;
+    each = rw c.deref.ensures.value c.in-Ok.ensures.ok;
+  };
 }
 
 pub returns-in-Ok-put_entries : goal.returns-in-Ok-put_entries
