@@ -4,7 +4,6 @@ pub mod Closing
 pub mod ComingBack
 pub mod CountsLemmas
 pub mod Decoding
-pub mod Exchanging
 pub mod Filling
 pub mod Giving
 pub mod GoingBack

@@ -8,7 +8,7 @@
 //! Decoding undoes these steps, the last one first. So step 1 costs nothing: what it took from the
 //! coder comes back.
 
-ghost use Rattle.std.specs.Prelude.{◌≡◌, ◌+◌, ◌%◌, ◌^◌, ◌<◌, ◌≤◌, ◌⊎◌, [], None, Some, Err, IfOk, OnOk, OnErr, length, vec_capacity};
+ghost use Rattle.std.specs.Prelude.{◌≡◌, ◌+◌, ◌%◌, ◌^◌, ◌<◌, ◌≤◌, ◌⊎◌, [], None, Some, Err, IfErr, IfOk, OnOk, OnErr, length, vec_capacity};
 ghost use Rattle.std.specs.Fn.{FnReturnsAt};
 ghost use Rattle.constriction_model.specs.Model.{AnswersQuantile};
 ghost use Rattle.constriction_model.specs.Rows.{entry_of};
@@ -94,6 +94,60 @@ fn exchange<const DRAWN: usize, const CODED: usize, const PAID: usize>(
     Ok(())
 }
 
+/// The symbol that a state has by the model that another symbol chooses, and its entry; and the
+/// entry of the other symbol by the model that this one chooses.
+fn symbol_by_other<
+    Symbol: Drop,
+    Other,
+    BackModel: EncoderModel<BACK_PRECISION, Symbol = Other, Probability: ModelWord> + Drop,
+    Model: DecoderModel<PRECISION, Symbol = Symbol, Probability: ModelWord> + Drop,
+    Back: Fn(&Symbol) -> BackModel,
+    Chosen: Fn(&Other) -> Model,
+    const BACK_PRECISION: usize,
+    const PRECISION: usize,
+>(
+    state: u64,
+    other: &Other,
+    back: Back,
+    chosen: Chosen,
+) -> Result<(Symbol, Entry, Entry), CoderError<DefaultEncoderFrontendError, AllocError>>
+    requires back { Back.IsAlwaysCallable back }
+    requires chosen { Chosen.IsAlwaysCallable chosen }
+    ensures found { IfOk result (λ t. (model : Model) × FnReturnsAt Chosen.Fn chosen other.now model
+        × AnswersQuantile Model.stands_for (λ n. n) (λ n. n) (Model.rows model)
+        (state % 2 ^ PRECISION) (t.0, t.1.0, t.1.1)) }
+    ensures fits { IfOk result (λ _. PRECISION ≤ 32) }
+    ensures some { IfOk result (λ t. 0 < t.1.1) }
+    ensures within { IfOk result (λ t. t.1.0 + t.1.1 ≤ 2 ^ PRECISION) }
+    ensures from { IfOk result (λ t. t.1.0 ≤ state % 2 ^ PRECISION) }
+    ensures to { IfOk result (λ t. state % 2 ^ PRECISION < t.1.0 + t.1.1) }
+    ensures back { IfOk result (λ t. (model : BackModel) × FnReturnsAt Back.Fn back t.0 model
+        × (entry_of BackModel.symbol_eq (BackModel.rows model) other.now
+        ≡ Some (t.2.0, t.2.1))) }
+    ensures back_precision { IfOk result (λ _. IsPrecision 32 BACK_PRECISION) }
+    ensures back_some { IfOk result (λ t. 0 < t.2.1) }
+    ensures back_within { IfOk result (λ t. t.2.0 + t.2.1 ≤ 2 ^ BACK_PRECISION) }
+    ensures impossible { (fault : _) → result ≡ Err (CoderError.Frontend fault) → (symbol : Symbol)
+        × IsChosenByState (FnReturnsAt Chosen.Fn chosen) Model.rows PRECISION Model.stands_for
+        other.now symbol (content state []) × (model : BackModel)
+        × FnReturnsAt Back.Fn back symbol model
+        × (entry_of BackModel.symbol_eq (BackModel.rows model) other.now ≡ None) }
+{
+    let model = chosen(other);
+    let (symbol, own) = match symbol_and_entry::<Model, PRECISION>(
+        &model,
+        quantile_of::<PRECISION>(state),
+    ) {
+        Ok(answer) => answer,
+        Err(error) => return Err(CoderError::Backend(error)),
+    };
+    let back_model = back(&symbol);
+    match entry_of_symbol::<BackModel, BACK_PRECISION>(&back_model, other) {
+        Some(entry) => Ok((symbol, own, entry)),
+        None => Err(CoderError::Frontend(DefaultEncoderFrontendError::ImpossibleSymbol)),
+    }
+}
+
 /// Encodes a symbol by a latent one, which is decoded from what the coder holds.
 ///
 /// It fails with `ImpossibleSymbol` if the latent symbol has no entry in its prior, or the symbol
@@ -136,18 +190,19 @@ pub fn encode<
         ⊎ (entry_of LikelihoodModel.symbol_eq (LikelihoodModel.rows given) symbol.now ≡ None)) }
     ensures same { OnErr result (held_by coder.new ≡ held_by coder.old) }
 {
-    let chosen = posterior(symbol);
-    let (latent, drawn) = match symbol_and_entry::<PosteriorModel, POSTERIOR_PRECISION>(
-        &chosen,
-        quantile_of::<POSTERIOR_PRECISION>(coder.state),
-    ) {
-        Ok(answer) => answer,
-        Err(error) => return Err(CoderError::Backend(error)),
-    };
-    let given = likelihood(&latent);
-    let Some(coded) = entry_of_symbol::<LikelihoodModel, LIKELIHOOD_PRECISION>(&given, symbol)
-    else {
-        return Err(CoderError::Frontend(DefaultEncoderFrontendError::ImpossibleSymbol));
+    let (latent, drawn, coded) = match symbol_by_other::<
+        Latent,
+        Symbol,
+        LikelihoodModel,
+        PosteriorModel,
+        Likelihood,
+        Posterior,
+        LIKELIHOOD_PRECISION,
+        POSTERIOR_PRECISION,
+    >(coder.state, symbol, likelihood, posterior)
+    {
+        Ok(found) => found,
+        Err(error) => return Err(error),
     };
     let Some(paid) = entry_of_symbol::<Prior, PRIOR_PRECISION>(prior, &latent) else {
         return Err(CoderError::Frontend(DefaultEncoderFrontendError::ImpossibleSymbol));
@@ -160,62 +215,39 @@ pub fn encode<
     }
 }
 
-/// The symbol that a state has by the likelihood, which the latent symbol chooses, and its entry;
-/// and the entry that the latent symbol has by the posterior, which the symbol chooses.
-fn symbol_of_latent<
-    Symbol: Drop,
-    Latent,
-    PosteriorModel: EncoderModel<POSTERIOR_PRECISION, Symbol = Latent, Probability: ModelWord>
-        + Drop,
-    LikelihoodModel: DecoderModel<LIKELIHOOD_PRECISION, Symbol = Symbol, Probability: ModelWord>
-        + Drop,
-    Posterior: Fn(&Symbol) -> PosteriorModel,
-    Likelihood: Fn(&Latent) -> LikelihoodModel,
-    const POSTERIOR_PRECISION: usize,
-    const LIKELIHOOD_PRECISION: usize,
->(
-    state: u64,
-    latent: &Latent,
-    posterior: Posterior,
-    likelihood: Likelihood,
-) -> Result<(Symbol, Entry, Entry), CoderError<DefaultEncoderFrontendError, AllocError>>
-    requires posterior { Posterior.IsAlwaysCallable posterior }
-    requires likelihood { Likelihood.IsAlwaysCallable likelihood }
-    ensures coded { IfOk result (λ t. (given : LikelihoodModel)
-        × FnReturnsAt Likelihood.Fn likelihood latent.now given
-        × AnswersQuantile LikelihoodModel.stands_for (λ n. n) (λ n. n) (LikelihoodModel.rows given)
-        (state % 2 ^ LIKELIHOOD_PRECISION) (t.0, t.1.0, t.1.1)) }
-    ensures coded_fits { IfOk result (λ _. LIKELIHOOD_PRECISION ≤ 32) }
-    ensures coded_some { IfOk result (λ t. 0 < t.1.1) }
-    ensures coded_within { IfOk result (λ t. t.1.0 + t.1.1 ≤ 2 ^ LIKELIHOOD_PRECISION) }
-    ensures from { IfOk result (λ t. t.1.0 ≤ state % 2 ^ LIKELIHOOD_PRECISION) }
-    ensures to { IfOk result (λ t. state % 2 ^ LIKELIHOOD_PRECISION < t.1.0 + t.1.1) }
-    ensures returned { IfOk result (λ t. (chosen : PosteriorModel)
-        × FnReturnsAt Posterior.Fn posterior t.0 chosen
-        × (entry_of PosteriorModel.symbol_eq (PosteriorModel.rows chosen) latent.now
-        ≡ Some (t.2.0, t.2.1))) }
-    ensures returned_precision { IfOk result (λ _. IsPrecision 32 POSTERIOR_PRECISION) }
-    ensures returned_some { IfOk result (λ t. 0 < t.2.1) }
-    ensures returned_within { IfOk result (λ t. t.2.0 + t.2.1 ≤ 2 ^ POSTERIOR_PRECISION) }
-    ensures impossible { (fault : _) → result ≡ Err (CoderError.Frontend fault) → (symbol : Symbol)
-        × IsChosenByState (FnReturnsAt Likelihood.Fn likelihood) LikelihoodModel.rows
-        LIKELIHOOD_PRECISION LikelihoodModel.stands_for latent.now symbol (content state [])
-        × (chosen : PosteriorModel) × FnReturnsAt Posterior.Fn posterior symbol chosen
-        × (entry_of PosteriorModel.symbol_eq (PosteriorModel.rows chosen) latent.now ≡ None) }
+/// Takes the symbol on top, and makes room for a word. It answers the symbol and its entry. An
+/// error leaves the state and the words.
+fn take_symbol<Model, const PRECISION: usize>(
+    coder: &mut AnsCoder<Vec<u32>>,
+    model: &Model,
+) -> Result<(Model::Symbol, Entry), AllocError>
+where
+    Model: DecoderModel<PRECISION, Probability: ModelWord>,
+    Model::Symbol: Drop,
+    ensures decoded { IfOk result (λ t. IsDecoded Model.stands_for (Model.rows model.now) PRECISION
+        t.0 (held_by coder.old) (held_by coder.new)) }
+    ensures under { IfOk result (λ t.
+        IsOnTop PRECISION t.1.0 t.1.1 (held_by coder.old) (held_by coder.new)) }
+    ensures precision { IfOk result (λ _. IsPrecision 32 PRECISION) }
+    ensures some { IfOk result (λ t. 0 < t.1.1) }
+    ensures within { IfOk result (λ t. t.1.0 + t.1.1 ≤ 2 ^ PRECISION) }
+    ensures room { IfOk result (λ _.
+        length coder.new.words.items < vec_capacity coder.new.words) }
+    ensures same { IfErr result (λ _. held_by coder.new ≡ held_by coder.old) }
 {
-    let given = likelihood(latent);
-    let (symbol, coded) = match symbol_and_entry::<LikelihoodModel, LIKELIHOOD_PRECISION>(
-        &given,
-        quantile_of::<LIKELIHOOD_PRECISION>(state),
+    let (symbol, entry) = match symbol_and_entry::<Model, PRECISION>(
+        model,
+        quantile_of::<PRECISION>(coder.state),
     ) {
         Ok(answer) => answer,
-        Err(error) => return Err(CoderError::Backend(error)),
+        Err(error) => return Err(error),
     };
-    let chosen = posterior(&symbol);
-    match entry_of_symbol::<PosteriorModel, POSTERIOR_PRECISION>(&chosen, latent) {
-        Some(returned) => Ok((symbol, coded, returned)),
-        None => Err(CoderError::Frontend(DefaultEncoderFrontendError::ImpossibleSymbol)),
+    match coder.words.reserve(1) {
+        Ok(()) => {}
+        Err(error) => return Err(error),
     }
+    take_from_vec::<PRECISION>(coder, entry);
+    Ok((symbol, entry))
 }
 
 /// Decodes a symbol that [`encode`] encoded by a latent one, and puts the latent one back on the
@@ -264,19 +296,11 @@ pub fn decode<
     // If no symbol is decoded, putting the latent one back leaves what the coder holds now, which
     // it may hold.
     may_be_held(coder);
-    let (latent, paid) = match symbol_and_entry::<Prior, PRIOR_PRECISION>(
-        prior,
-        quantile_of::<PRIOR_PRECISION>(coder.state),
-    ) {
-        Ok(answer) => answer,
+    let (latent, paid) = match take_symbol::<Prior, PRIOR_PRECISION>(coder, prior) {
+        Ok(taken) => taken,
         Err(error) => return Err(CoderError::Backend(error)),
     };
-    match coder.words.reserve(1) {
-        Ok(()) => {}
-        Err(error) => return Err(CoderError::Backend(error)),
-    }
-    take_from_vec::<PRIOR_PRECISION>(coder, paid);
-    match symbol_of_latent::<
+    match symbol_by_other::<
         Symbol,
         Latent,
         PosteriorModel,

@@ -1,76 +1,55 @@
-use Rattle.std.proofs.Common.{refl, inl, inr}
-use Rattle.std.proofs.lemmas.Fn.{says_at}
-use Rattle.constriction_coders.proofs.Outcomes.{no-error}
+use Rattle.std.proofs.Common.{ap, inl, inr, refl, Err}
+use Rattle.constriction_coders.proofs.Outcomes.{no-error, equal-errors}
 use Rattle.constriction_coders.proofs.Steps.{decoded}
 use Rattle.constriction_coders.proofs.stack.bits_back.encode.Goals as goal
+
+pub returns-in-Err : goal.returns-in-Err
+returns-in-Err g c = record {
+  ok = tt;
+  impossible = λ fault is.
+      let other = c.in-Err.ensures.impossible fault (ap Err (equal-errors _ _ is)) in
+      (other.0, other.1, other.2, other.3, inr other.4);
+  same = refl;
+}
 
 pub returns-in_default : goal.returns-in_default
 returns-in_default g c = record {
   ok = tt;
   impossible = λ fault is.
-      let row = c.in-Ok.ensures.row in (
-        c.in-Ok.answer.0,
-        (
-          c.posterior-chosen.result,
-          says_at g.Posterior.Fn c.posterior-chosen.ensures refl,
-          _,
-          rw c.quantile_of.ensures at row.2,
-          row.1,
-        ),
-        c.likelihood-given.result,
-        says_at g.Likelihood.Fn c.likelihood-given.ensures refl,
-        inr (c.in_default.ensures.none refl),
-      );
-  same = refl;
-}
-
-pub returns-in_default-entry_of_symbol : goal.returns-in_default-entry_of_symbol
-returns-in_default-entry_of_symbol g c = record {
-  ok = tt;
-  impossible = λ fault is.
-      let row = c.in-Ok.ensures.row in (
-        c.in-Ok.answer.0,
-        (
-          c.posterior-chosen.result,
-          says_at g.Posterior.Fn c.posterior-chosen.ensures refl,
-          _,
-          rw c.quantile_of.ensures at row.2,
-          row.1,
-        ),
-        c.likelihood-given.result,
-        says_at g.Likelihood.Fn c.likelihood-given.ensures refl,
-        inl (c.in_default-entry_of_symbol.ensures.none refl),
-      );
+      let own = c.in-Ok.ensures.found in
+      (c.in-Ok.found.0, (own.0, own.1, _, own.2.2, own.2.1), c.in-Ok.ensures.back.0, c.in-Ok.ensures.back.1, inl (c.in_default.ensures.none refl));
   same = refl;
 }
 
 pub returns-in-Ok-exchange : goal.returns-in-Ok-exchange
 returns-in-Ok-exchange g c =
     let moved = c.in-Ok-exchange.ensures.ok in
-    let drawn =
-    decoded g.row.POSTERIOR_PRECISION c.in-Ok.answer.1.0 c.in-Ok.answer.1.1 g.PosteriorModel.DecoderModel.stands_for
-    (g.PosteriorModel.EntropyModel.rows c.posterior-chosen.result) c.in-Ok.ensures.row.0 c.in-Ok.answer.0 c.quantile_of.result _ _
-    c.quantile_of.ensures c.in-Ok.ensures.row.2 c.in-Ok.ensures.row.1 moved.2 in
+    let own = c.in-Ok.ensures.found in
     record {
       ok = record {
-        latent = c.in-Ok.answer.0;
+        latent = c.in-Ok.found.0;
         drawn = moved.0;
-        posterior = (c.posterior-chosen.result, says_at g.Posterior.Fn c.posterior-chosen.ensures refl, drawn);
+        posterior = (
+          own.0,
+          own.1,
+          decoded g.row.POSTERIOR_PRECISION c.in-Ok.found.1.0 c.in-Ok.found.1.1 g.PosteriorModel.DecoderModel.stands_for
+              (g.PosteriorModel.EntropyModel.rows own.0) own.2.0 c.in-Ok.found.0 _ _ _ refl own.2.2 own.2.1 moved.2,
+        );
         coded = moved.1;
         likelihood = (
-          c.likelihood-given.result,
-          says_at g.Likelihood.Fn c.likelihood-given.ensures refl,
+          c.in-Ok.ensures.back.0,
+          c.in-Ok.ensures.back.1,
           record {
-            left = c.in-Some.coded.0;
-            weight = c.in-Some.coded.1;
-            known = c.in-Some.ensures.known;
+            left = c.in-Ok.found.2.0;
+            weight = c.in-Ok.found.2.1;
+            known = c.in-Ok.ensures.back.2;
             top = moved.3;
           },
         );
         prior = record {
-          left = c.in-Some-entry_of_symbol.paid.0;
-          weight = c.in-Some-entry_of_symbol.paid.1;
-          known = c.in-Some-entry_of_symbol.ensures.known;
+          left = c.in-Some.paid.0;
+          weight = c.in-Some.paid.1;
+          known = c.in-Some.ensures.known;
           top = moved.4;
         };
       };

@@ -1,8 +1,28 @@
 use Rattle.std.proofs.Common.{◌*◌, ◌%◌, refl, arith}
 use Rattle.constriction_coders.specs.Spans.{span_of}
-use Rattle.constriction_coders.proofs.Narrowing.{widened-wide, widened-small, part-reached}
+use Rattle.constriction_coders.proofs.Narrowing.{widened-wide, widened-small, part-reached, part-within}
 use Rattle.constriction_coders.proofs.Outcomes.{no-error}
 use Rattle.constriction_coders.proofs.queue.range_encoder.RangeEncoderEncode.encode_symbol.Goals as goal
+
+pub unit_of-unit-requires : goal.unit_of-unit-requires
+unit_of-unit-requires g c = record { fits = c.entry_of_symbol.ensures.precision.fits; wide = c.self.invariant.wide }
+
+pub overflow_mul-by : goal.overflow_mul-by
+overflow_mul-by g c =
+    omega (arith, c.self.invariant.fits, part-within _ _ _ _ _ c.unit_of-unit.ensures.within c.in-Some.ensures.within)
+
+pub overflow_mul-range : goal.overflow_mul-range
+overflow_mul-range g c =
+    omega (arith, c.self.invariant.fits, part-within _ _ _ _ _ c.unit_of-unit.ensures.within c.in-Some.ensures.within)
+
+pub raised-self-inside-requires : goal.raised-self-inside-requires
+raised-self-inside-requires g c =
+    omega (arith, c.self.invariant.within, part-within _ _ _ _ _ c.unit_of-unit.ensures.within c.in-Some.ensures.within)
+
+pub raised-lower-requires : goal.raised-lower-requires
+raised-lower-requires g c =
+    let part = part-within _ _ _ _ _ c.unit_of-unit.ensures.within c.in-Some.ensures.within in
+    rw c.in-Ok.ensures.items (omega (arith, c.self.invariant.within, part))
 
 pub invariant_of-self : goal.invariant_of-self
 invariant_of-self g c =
