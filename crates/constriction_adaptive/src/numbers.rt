@@ -8,10 +8,9 @@ ghost use Rattle.constriction_coders.specs.Places.{entry_at, IsMessageFrom};
 ghost use Rattle.constriction_coders.specs.RangeDecoder.{held_by};
 ghost use Rattle.constriction_coders.specs.Spans.{IsNarrowed};
 ghost use Rattle.constriction_adaptive.specs.Numbers.{all_bits, bits_of, AreReadFrom, NumberEncodingStops};
-ghost use Rattle.constriction_adaptive.specs.Predicted.{predicted_entry, AllTile, AreCoded, AdaptiveDecodingStops, AdaptiveEncodingStops, FirstAreLearned, IsEncodingFault, IsReadIn};
+ghost use Rattle.constriction_adaptive.specs.Predicted.{predicted_entry, AllTile, AreCoded, AdaptiveDecodingStops, AdaptiveEncodingStops, FirstAreLearned, IsEncodingFault, IsNotDecoded, IsReadIn};
 
 use crate::bit::Bit;
-use crate::decoding::decode_next;
 use crate::error::EncoderFrontendError;
 use crate::predictor::Predictor;
 use crate::queue::encode_next;
@@ -86,10 +85,47 @@ where
     Ok(())
 }
 
+/// Decodes a bit by the weight that the predictor has for it, and learns it, as
+/// [`decode_next`](crate::decode_next) does, but without a division.
+#[inline]
+fn decode_next_bit<P, Source>(
+    predictor: &mut P,
+    decoder: &mut RangeDecoder<Source>,
+) -> Result<bool, CoderError<DecoderFrontendError, Source::ReadError>>
+where
+    P: Predictor<16, Symbol = bool, Model = Bit>,
+    Source: ReadWords<u32, Queue>,
+    requires { Source.can_read decoder.old.words }
+    ensures goes_on { Source.can_read decoder.new.words }
+    ensures ok { IfOk result (λ bit. IsReadIn P.rows (λ s t. t ≡ s) beq 16 Source.read_gives
+        (P.state predictor.old, bit) (held_by decoder.old) (held_by decoder.new)) }
+    ensures learned { IfOk result (λ bit.
+        P.state predictor.new ≡ P.next (P.state predictor.old) bit) }
+    ensures err { IfErr result (λ error. IsNotDecoded
+        (⟦<DecoderFrontendError as From<AllocError>>⟧.from_gives alloc_error)
+        (⟦<RangeDecoder<Source> as Decode<16>>⟧.decodes Bool
+        ⟦<Bit as DecoderModel<16>>⟧.may_refuse (P.rows (P.state predictor.old))) error decoder.old
+        decoder.new) }
+    ensures unlearned { OnErr result (P.state predictor.new ≡ P.state predictor.old) }
+{
+    match predictor.reserve() {
+        Ok(()) => {}
+        Err(error) => return Err(CoderError::Frontend(error.into())),
+    }
+    let weight = predictor.model().weight();
+    match decoder.decode_bit::<16>(weight as u32) {
+        Ok(bit) => {
+            predictor.learn(&bit);
+            Ok(bit)
+        }
+        Err(error) => Err(error),
+    }
+}
+
 /// Decodes the bits of a number.
 ///
-/// It fails as [`decode_next`] does. The bits before the one that was not decoded stay decoded and
-/// learned.
+/// It fails as [`decode_next`](crate::decode_next) does. The bits before the one that was not decoded
+/// stay decoded and learned.
 #[inline]
 pub fn decode_number<P, Number, Source, const BITS: usize>(
     predictor: &mut P,
@@ -117,7 +153,7 @@ where
 {
     let mut number = 0u32;
     for done in 0..BITS {
-        let bit = match decode_next(predictor, decoder) {
+        let bit = match decode_next_bit(predictor, decoder) {
             Ok(bit) => bit,
             Err(error) => return Err(error),
         };

@@ -22,11 +22,11 @@ loop-done-preserved g c =
     let is : 2 * n + c.from.result ≡ 2 * n + bit_number bit = omega (arith, c.from.ensures) in
     let more : bits_of (done + 1) (2 * n + c.from.result) ≡ bits_of done n ++ bit ∷ [] =
     ap (λ k. bits_of (done + 1) k) is ∙ ap (λ k. bits_of k (2 * n + bit_number bit)) one ∙ bits-push done n bit in record {
-      goes_on = c.decode_next.ensures.goes_on;
+      goes_on = c.decode_next_bit.ensures.goes_on;
       below = omega (arith, so.below, bit-small bit, double, is);
       so_far =
           subst (λ (bits : List Bool). AreCoded g.P.Predictor.next Step bits (g.P.Predictor.state c.args.predictor.now)
-          (held_by c.args.decoder.now) (g.P.Predictor.state c.decode_next.new.predictor) (held_by c.decode_next.new.coder)) (sym more)
+          (held_by c.args.decoder.now) (g.P.Predictor.state c.decode_next_bit.new.predictor) (held_by c.decode_next_bit.new.decoder)) (sym more)
           (coded-push g.P.Predictor.next Step (bits_of done n) bit _ _ _ _ _ _ so.so_far c.in-Ok.ensures.ok c.in-Ok.ensures.learned);
     }
 
