@@ -9,7 +9,7 @@ ghost use Rattle.constriction_coders.specs.AnsCoder.{held_by};
 ghost use Rattle.constriction_coders.specs.Laws.{StackComesBack};
 ghost use Rattle.constriction_coders.specs.Places.{placed, entry_at};
 ghost use Rattle.constriction_coders.specs.Steps.{IsEncoded};
-ghost use Rattle.constriction_adaptive.specs.Entries.{AreEntries, IsEntryAt};
+ghost use Rattle.constriction_adaptive.specs.Entries.{IsEntryAt};
 ghost use Rattle.constriction_adaptive.specs.Predicted.{predicted_entry, AreStacked, IsTakenIn, StackingStops, StacksItems};
 
 use crate::decoding::decode_adaptively;
@@ -149,8 +149,9 @@ where
     K: StoredEntry,
     Backend: WordStack<u32>,
     requires precision { IsPrecision 32 PRECISION }
-    requires entries { AreEntries P.next (predicted_entry P.rows P.Model.symbol_eq) PRECISION
-        (map K.kept entries.now) }
+    requires entries { (first : P.State) × (symbols : List P.Symbol) × AllZip
+        (IsEntryAt PRECISION (entry_at (predicted_entry P.rows P.Model.symbol_eq)))
+        (placed P.next first symbols) (map K.kept entries.now) }
     ensures ok { (first : P.State) → (symbols : List P.Symbol) → AllZip
         (IsEntryAt PRECISION (entry_at (predicted_entry P.rows P.Model.symbol_eq)))
         (placed P.next first symbols) (map K.kept entries.now) → OnOk result (InTurn

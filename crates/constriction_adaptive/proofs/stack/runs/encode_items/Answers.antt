@@ -5,16 +5,10 @@ pub returns-in-Err : goal.returns-in-Err
 returns-in-Err g c =
     let stops = c.in-Err.ensures in (stops.0, stops.1, stops.2, stops.3, stops.4, stops.5, refl)
 
-pub put_entries-requires : goal.put_entries-requires
-put_entries-requires g c =
-    let kept = c.in-Ok.ensures in record {
-      precision = c.requires.precision;
-      entries = record {
-        first = g.P.Predictor.state c.args.predictor.now;
-        symbols = kept.0;
-        each = rw c.deref.ensures.value kept.3;
-      };
-    }
+pub put_entries-requires-clause-entries : goal.put_entries-requires-clause-entries
+put_entries-requires-clause-entries g c =
+    let kept = c.in-Ok.ensures in
+    (g.P.Predictor.state c.args.predictor.now, kept.0, rw c.deref.ensures.value kept.3)
 
 pub returns-in-Ok-put_entries : goal.returns-in-Ok-put_entries
 returns-in-Ok-put_entries g c =

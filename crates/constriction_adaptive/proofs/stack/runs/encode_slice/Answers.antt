@@ -4,15 +4,9 @@ use Rattle.constriction_adaptive.proofs.stack.runs.encode_slice.Goals as goal
 pub returns-in-Err : goal.returns-in-Err
 returns-in-Err g c = record { ok = tt; err = (c.in-Err.ensures.err, refl) }
 
-pub put_entries-requires : goal.put_entries-requires
-put_entries-requires g c = record {
-  precision = c.requires.precision;
-  entries = record {
-    first = g.P.Predictor.state c.args.predictor.now;
-    symbols = c.args.symbols.now;
-    each = rw c.deref.ensures.value c.in-Ok.ensures.ok;
-  };
-}
+pub put_entries-requires-clause-entries : goal.put_entries-requires-clause-entries
+put_entries-requires-clause-entries g c =
+    (g.P.Predictor.state c.args.predictor.now, c.args.symbols.now, rw c.deref.ensures.value c.in-Ok.ensures.ok)
 
 pub returns-in-Ok-put_entries : goal.returns-in-Ok-put_entries
 returns-in-Ok-put_entries g c = record {

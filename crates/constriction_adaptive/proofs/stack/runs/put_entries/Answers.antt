@@ -25,7 +25,7 @@ put_entry-requires-clause-some g c =
     let i : ℕ = length c.args.entries.now - 1 - c.loop-done.done in
     let less : i < length c.args.entries.now = omega (arith, c.loop-done-test.true) in
     (entry-lies (entry_at (predicted_entry g.P.Predictor.rows g.P.Model.EncoderModel.symbol_eq)) g.row.PRECISION _
-    (map g.K.StoredEntry.kept c.args.entries.now) i c.read-left.result c.requires.entries.each
+    (map g.K.StoredEntry.kept c.args.entries.now) i c.read-left.result c.requires.entries.2
     (omega (arith, less, length-map c.args.entries.now g.K.StoredEntry.kept))
     (kept-at g.K.StoredEntry.kept c.args.entries.now i c.index-entries-count.result c.read-left.result less c.index-entries-count.is
     c.read-left.ensures)).1.some
@@ -35,7 +35,7 @@ put_entry-requires-clause-within g c =
     let i : ℕ = length c.args.entries.now - 1 - c.loop-done.done in
     let less : i < length c.args.entries.now = omega (arith, c.loop-done-test.true) in
     (entry-lies (entry_at (predicted_entry g.P.Predictor.rows g.P.Model.EncoderModel.symbol_eq)) g.row.PRECISION _
-    (map g.K.StoredEntry.kept c.args.entries.now) i c.read-left.result c.requires.entries.each
+    (map g.K.StoredEntry.kept c.args.entries.now) i c.read-left.result c.requires.entries.2
     (omega (arith, less, length-map c.args.entries.now g.K.StoredEntry.kept))
     (kept-at g.K.StoredEntry.kept c.args.entries.now i c.index-entries-count.result c.read-left.result less c.index-entries-count.is
     c.read-left.ensures)).1.within
