@@ -3,6 +3,23 @@ use Rattle.constriction_coders.proofs.Outcomes.{no-error, equal-errors}
 use Rattle.constriction_coders.proofs.Steps.{decoded}
 use Rattle.constriction_coders.proofs.stack.bits_back.encode.Goals as goal
 
+pub exchange-requires : goal.exchange-requires
+exchange-requires g c =
+    let found = c.in-Ok.ensures in
+    record {
+      drawn_fits = found.fits;
+      drawn_some = found.some;
+      drawn_within = found.within;
+      from = found.from;
+      to = found.to;
+      coded_precision = found.back_precision;
+      coded_some = found.back_some;
+      coded_within = found.back_within;
+      paid_precision = c.entry_of_symbol.ensures.precision;
+      paid_some = c.in-Some.ensures.some;
+      paid_within = c.in-Some.ensures.within;
+    }
+
 pub returns-in-Err : goal.returns-in-Err
 returns-in-Err g c = record {
   ok = tt;

@@ -1,26 +1,7 @@
-use Rattle.std.proofs.Common.{refl, arith}
+use Rattle.std.proofs.Common.{refl}
 use Rattle.constriction_coders.proofs.Intervals.{read_part}
 use Rattle.constriction_coders.proofs.Outcomes.{no-error, no-fault}
 use Rattle.constriction_coders.proofs.queue.decoding.RangeDecoderDecode.decode_symbol.Goals as goal
-
-pub unit_of-unit-requires : goal.unit_of-unit-requires
-unit_of-unit-requires g c = record {
-  fits = omega (arith, (g.met.D.EntropyModel.precision_law c.args.model.now).fits, g.met.D.Probability.ModelWord.width_law);
-  wide = c.args.self.now.wide;
-}
-
-pub symbol_and_entry-requires : goal.symbol_and_entry-requires
-symbol_and_entry-requires g c = c.in-Some.ensures.below
-
-pub part_of-range-requires : goal.part_of-range-requires
-part_of-range-requires g c = record {
-  within = c.unit_of-unit.ensures.within;
-  from = c.in-Some.ensures.from;
-  to = c.in-Some.ensures.to;
-  first = c.in-Ok.ensures.from;
-  last = c.in-Ok.ensures.to;
-  fits = c.in-Ok.ensures.within;
-}
 
 pub returns-in-Ok-hold : goal.returns-in-Ok-hold
 returns-in-Ok-hold g c =

@@ -1,8 +1,6 @@
-use Rattle.std.proofs.Common.{◌∙◌, ◌++◌, List, ℕ, ap}
-use Rattle.constriction_backends.specs.Cursor.{state_of}
+use Rattle.std.proofs.Common.{arith}
+use Rattle.std.proofs.lemmas.Grind.{get_or_default_zero}
 use Rattle.constriction_coders.proofs.queue.encoded_words.EncodedWords.new.Goals as goal
 
-pub returns-clause-words : goal.returns-clause-words
-returns-clause-words c =
-    ap (λ (ws : List ℕ). ws ++ (state_of c.new_at_write_beginning-2.result).after) c.new_at_write_beginning.ensures.ahead
-    ∙ ap (λ (ws : List ℕ). c.args.words.now ++ ws) c.new_at_write_beginning-2.ensures.ahead
+pub returns-clause-fit : goal.returns-clause-fit
+returns-clause-fit c = λ k d h. omega (arith, c.type_inv.words k, get_or_default_zero c.args.words.now k d h)
