@@ -124,8 +124,8 @@ where
 
 /// Decodes the bits of a number.
 ///
-/// It fails as [`decode_next`](crate::decode_next) does. The bits before the one that was not decoded
-/// stay decoded and learned.
+/// It fails as [`decode_next`](crate::decode_next) does. The bits before the one that was not
+/// decoded stay decoded and learned.
 #[inline]
 pub fn decode_number<P, Number, Source, const BITS: usize>(
     predictor: &mut P,

@@ -10,7 +10,3 @@ returns-in_err-entries g c = record {
 
 pub returns : goal.returns
 returns g c = record { ok = rw c.decoder_over.ensures c.in_ok-entries.ensures.rows; invalid = λ e. cc }
-
-pub decoder_over-requires : goal.decoder_over-requires
-decoder_over-requires g c =
-    (search rules, (g.met.M.EntropyModel.precision_law c.args.model, (c.in_ok-entries.ensures.stored, c.in_ok-entries.ensures.distinct)))
