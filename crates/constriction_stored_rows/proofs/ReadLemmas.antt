@@ -135,7 +135,7 @@ module _ {S T Symbol W : Type 0} (wsteps : T → Option W → T → Type 0) (who
   -- weights that were not taken are not accepted, with these symbols
   pub bad-taken : {Now : Type 0} (u : Now → S) (Held : Now → List (Row Symbol) → Type 0)
       → AreNotTaken wsteps jt whole bits precision infer (λ ws t. TookRows steps Goes remaining eq (Held t) it ws (u t))
-          (EndsBefore steps eq it)
+      (EndsBefore steps eq it)
       → GaveBothBad steps it wsteps jt (AreGood eq whole bits precision infer)
   bad-taken u Held why = elim why [
     | inl bad ↦
@@ -198,7 +198,7 @@ module _ {S T Symbol W : Type 0} (wsteps : T → Option W → T → Type 0) (who
     -- as many symbols as weights
     pub good-taken : steps u None u'
         → GaveBothGood steps it wsteps jt
-            (λ ss ws. AreGood eq whole bits precision infer ss ws × Held (rows_of ss (completed precision infer (map whole ws))))
+        (λ ss ws. AreGood eq whole bits precision infer ss ws × Held (rows_of ss (completed precision infer (map whole ws))))
     good-taken end =
         let read = t.2.1 in (
           read.symbols,

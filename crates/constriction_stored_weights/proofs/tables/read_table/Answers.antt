@@ -37,7 +37,7 @@ returns-then-place-gt0-clause-not_a_table g c = λ is more table.
       c.if-place-gt0.true,
       ap (λ k. place.byte % k) (one_shl place.left 32 width),
       zeros_after p c.args.count bytes more c.read_entries.new.weights.items place.next place.byte place.left place.within read.ok table
-      same,
+          same,
     )
 
 text_taken : (bytes weights : List ℕ) (place : ReadPlace) → place.byte % ((1 * 2 ^ place.left) % 4294967296) ≤ 0
