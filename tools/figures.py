@@ -167,8 +167,8 @@ def summary(saved):
     others = [it for it in same if OTHER_NAMES.match(it["name"])]
     few = sum(round(ratio(it), 2) <= 1.1 for it in named)
     return wrapped(
-        f"Of {len(named)} measurements of calls that do what the Rust crate's of the same name do, half take at most "
-        f"{ratio_text(named[len(named) // 2])} times as long, {few} at most 1.1 times, and the slowest, `{named[-1]['name']}`, "
+        f"Of {len(named)} measurements of calls with the Rust crate's names and work the median takes "
+        f"{ratio_text(named[len(named) // 2])} times as long, {few} at most 1.1 times, the slowest, `{named[-1]['name']}`, "
         f"{ratio_text(named[-1])} times. Those that do other work take longer: constructors that compare symbols up to "
         f"{most(part_of(saved, ('repeats',)))} times, lookups by fewer slots up to {most(part_of(saved, ('slots',)))} times. The Rust crate's "
         f"work under other names takes at most {most(others)} times as long ([SPEED](docs/SPEED.md))."
