@@ -1,11 +1,13 @@
 -- A cdf that is written over with the rows of a slice of weights.
-use Rattle.std.specs.Prelude.{◌≡◌, ℕ, ◌+◌, ◌-◌, ◌^◌, ◌<◌, Bool, true, false, List, [], ◌∷◌, ◌++◌, length, map, sum, take}
+use Rattle.std.specs.Prelude.{◌≡◌, ℕ, ◌+◌, ◌-◌, ◌^◌, ◌<◌, Bool, true, false, List, [], ◌∷◌, ◌++◌, length, map, sum, take, Result, Ok, Err, OnOk, OnErr}
+use Rattle.std.specs.Result.{is_err}
 use Rattle.std.proofs.Common.{refl, ap, sym, ◌∙◌, subst, arith, get_or, inl, inr, Iter}
 use Rattle.std.proofs.iter.Yields.{Copied-Drains, Copied-slice, copies, fronts, gives_left}
 use Rattle.std.specs.Iterator.Adapters.{copied_source}
 use Rattle.std.specs.Slice.Iter.{iter_rest}
 use Rattle.std.specs.declared.iter.Copied.{Copied}
-use Rattle.std.proofs.lemmas.List.{map-append, map-id, take_more}
+use Rattle.std.proofs.lemmas.Bool.{false≢true}
+use Rattle.std.proofs.lemmas.List.{length-append, length-map, map-append, map-id, take_more}
 use Rattle.std.proofs.lemmas.List.Elements.{All-contains, Contains-push}
 use Rattle.std.proofs.lemmas.List.Sums.{sum_by_push}
 use Rattle.std.proofs.lemmas.Nat.{pow_pos}
@@ -32,6 +34,21 @@ module _ {A : Type 0} (it : Copied (Iter A)) (all : List A) (e : iter_rest (copi
         let left = gives_left (copies fronts) (λ x. x) begun.0 (iter_rest (copied_source it)) it begun.1 (Copied-slice it) begun.2 in
         begun.3 left.0 (subst Good (sym e ∙ left.1 ∙ ap (λ zs. zs ++ left.0) (map-id begun.0)) good)
   ]
+
+-- there is one weight more than before the last one
+pub one-more : {W : Type 0} (whole : W → ℕ) (all : List ℕ) (before : List W) (last : ℕ) → all ≡ map whole before ++ last ∷ []
+    → length all ≡ length before + 1
+one-more whole all before last e =
+    ap length e ∙ length-append (map whole before) (last ∷ []) ∙ ap (λ n. n + 1) (length-map before whole)
+
+-- what holds if a request failed, and if it did not
+pub failed : {T E : Type 0} (r : Result T E) (b : Bool) (P : Type 0) → b ≡ is_err r → b ≡ true → OnErr r P → P
+failed (Ok x) b P e is p = absurd (false≢true (sym e ∙ is))
+failed (Err x) b P e is p = p
+
+pub succeeded : {T E : Type 0} (r : Result T E) (b : Bool) (P : Type 0) → b ≡ is_err r → b ≡ false → OnOk r P → P
+succeeded (Ok x) b P e is p = p
+succeeded (Err x) b P e is p = absurd (false≢true (sym is ∙ e))
 
 module _ (bits precision : ℕ) where
   -- the weights before the last one of accepted weights leave quantiles

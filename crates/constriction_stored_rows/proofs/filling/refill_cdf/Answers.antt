@@ -1,8 +1,9 @@
-use Rattle.std.proofs.Common.{map, refl, rules, zero-add, inl, inr}
+use Rattle.std.proofs.Common.{map, ap, refl, arith, rules, zero-add, inl, inr}
 use Rattle.std.specs.Prelude.{sum}
+use Rattle.std.specs.Vec.{vec_capacity}
 use Rattle.std.proofs.lemmas.Result.{IfOk-from_err}
 use Rattle.constriction_stored_rows.proofs.FillLemmas.{accepted≢refused, table≢memory, lefts_from-push}
-use Rattle.constriction_stored_rows.proofs.RefillLemmas.{slice-good, slice-bad}
+use Rattle.constriction_stored_rows.proofs.RefillLemmas.{slice-good, slice-bad, one-more, failed, succeeded}
 use Rattle.constriction_stored_rows.proofs.filling.refill_cdf.Goals as goal
 
 pub returns-in_err-weights_taken-clause-invalid : goal.returns-in_err-weights_taken-clause-invalid
@@ -81,3 +82,41 @@ returns-clause-memory g c = λ e. absurd (accepted≢refused _ _ e)
 
 pub returns-clause-err : goal.returns-clause-err
 returns-clause-err g c = tt
+
+pub returns-in_default-clause-memory : goal.returns-in_default-clause-memory
+returns-in_default-clause-memory g c = λ _.
+    let last = c.before_last-before.ensures.before in
+    omega (
+      arith,
+      one-more g.Word.WholeNumber.whole _ c.before_last-before.result.now last.0 last.1,
+      c.in_default.ensures,
+      c.args.cdf.now.ok.1,
+      c.args.cdf.now.small,
+    )
+
+pub returns-then-is_err-clause-memory : goal.returns-then-is_err-clause-memory
+returns-then-is_err-clause-memory g c = λ _.
+    let last = c.before_last-before.ensures.before in
+    let full = failed c.reserve.result c.is_err.result _ c.is_err.ensures.value c.if-is_err.true c.reserve.ensures.full in
+    omega (
+      arith,
+      one-more g.Word.WholeNumber.whole _ c.before_last-before.result.now last.0 last.1,
+      full,
+      c.in-Some.ensures,
+      c.len.ensures,
+      c.saturating_sub.ensures,
+      c.args.cdf.now.ok.1,
+    )
+
+pub rewritten-requires-clause-room : goal.rewritten-requires-clause-room
+rewritten-requires-clause-room g c =
+    let room = succeeded c.reserve.result c.is_err.result _ c.is_err.ensures.value c.if-is_err.false c.reserve.ensures.ok in
+    omega (
+      arith,
+      room,
+      ap vec_capacity c.replace-old.ensures.value,
+      c.in-Some.ensures,
+      c.len.ensures,
+      c.saturating_sub.ensures,
+      c.reserve.ensures.len,
+    )
