@@ -3,7 +3,7 @@ use Rattle.std.proofs.Common.{◌≡◌, ◌↔◌, ℕ, ◌+◌, ◌-◌, ◌*�
 use Rattle.std.proofs.Math.Nat.{mul_comm, mul-le-mul_right, div-lt_iff_lt-mul, lt-div-mul-add}
 use Rattle.std.proofs.lemmas.Bool.{cases_lt}
 use Rattle.std.proofs.lemmas.Nat.{pow-add, pow_pos}
-use Rattle.std.proofs.lemmas.List.{length-map, length-append, length-replicate, map-append, get_or_append_left, get_or-append_right, get_or-replicate, append_assoc, replicate_more}
+use Rattle.std.proofs.lemmas.List.{length-map, length-append, length-replicate, map-append, get_or_append_left, get_or-append_right, get_or-replicate, append-nil, append_assoc, replicate_more}
 use Rattle.std.specs.List.Sorted.{IsStrictlyIncreasing}
 use Rattle.constriction_model.specs.Probe.{IsLastAtMost}
 use Rattle.constriction_stored_rows.specs.Slots.{slot_width, slot_count}
@@ -161,6 +161,14 @@ pub entry-word : {Entry : Type 0} (cumulative : Entry → ℕ) (w : ℕ) (entrie
 entry-word cumulative w entries i entry number word h is same from =
     rw (read-whole cumulative entries i entry h is ∙ sym same) from
 
+-- a table without words has those before the first word of the first row
+pub no-words : (w : ℕ) (lefts table : List ℕ) (left : ℕ) → length table ≡ 0 → left ≡ 0
+    → HasWords w lefts table × IsFirstWord w left (length table)
+no-words w lefts table left none is = (
+  record { first = λ j b. absurd (omega arith); last = λ j b. absurd (omega arith) },
+  record { first = λ j. ((λ h. omega arith), (λ h. omega arith)); last = λ j. ((λ h. omega arith), (λ h. omega arith)) },
+)
+
 -- the table has all words before the first one of a row
 pub word-within : (precision slot_bits left word : ℕ) → IsFirstWord (slot_width precision slot_bits) left word
     → left < 2 ^ precision
@@ -231,6 +239,12 @@ module _ (w : ℕ) (lefts table : List ℕ) (row n : ℕ) (up : IsStrictlyIncrea
 map-replicate : {A B : Type 0} (f : A → B) (n : ℕ) (x : A) → map f (replicate n x) ≡ replicate n (f x)
 map-replicate f zero x = refl
 map-replicate f (suc n) x = ap (λ xs. f x ∷ xs) (map-replicate f n x)
+
+-- no word of a row yet
+pub filled-none : {W : Type 0} (items : List W) (row : W) (from to : ℕ) → to ≡ from → items ≡ items ++ replicate (to - from) row
+filled-none items row from to is =
+    let none : to - from ≡ 0 = omega arith in
+    sym (ap (λ n. items ++ replicate n row) none ∙ append-nil items)
 
 -- one more word of a row
 pub filled-next : {W : Type 0} (items filled : List W) (row : W) (from to : ℕ) → from ≤ to

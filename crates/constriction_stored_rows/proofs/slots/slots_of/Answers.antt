@@ -1,10 +1,10 @@
-use Rattle.std.proofs.Common.{◌≡◌, ℕ, ◌+◌, ◌-◌, ◌^◌, ◌<◌, ◌≤◌, length, map, ap, refl, arith}
+use Rattle.std.proofs.Common.{◌≡◌, ℕ, ◌+◌, ◌-◌, ◌^◌, ◌<◌, ◌≤◌, length, map, get_or, ap, refl, ◌∙◌, arith}
 use Rattle.std.proofs.Math.Pow.{pow_mono}
 use Rattle.std.proofs.lemmas.List.{length-map}
 use Rattle.std.proofs.lemmas.Nat.{pow_pos}
 use Rattle.constriction_stored_rows.specs.Slots.{slot_width}
 use Rattle.constriction_stored_rows.specs.lemmas.Stored.{read-whole}
-use Rattle.constriction_stored_rows.proofs.SlotFilling.{index-most, entry-word, next-word, word-within, row-filled, all-filled}
+use Rattle.constriction_stored_rows.proofs.SlotFilling.{no-words, index-most, entry-word, next-word, word-within, row-filled, all-filled}
 use Rattle.constriction_stored_rows.proofs.slots.slots_of.Goals as goal
 
 pub first_word-end-requires-clause-below : goal.first_word-end-requires-clause-below
@@ -111,3 +111,23 @@ returns g c =
     g.row.SLOT_BITS refl
     c.words_of_table-words.ensures (omega (arith, inv.0, row, long, c.rows-test.false))
     (c.requires.below (whole c.rows.row) row)
+
+pub rows-init : goal.rows-init
+rows-init g c =
+    let whole = g.Kind.Word.WholeNumber.whole in
+    let entries = c.args.entries.now in
+    let lefts = map g.Kind.CdfEntry.cumulative entries in
+    let table = c.in_ok-table.table.items in
+    let none : length (map whole table) ≡ 0 = ap (λ xs. length (map whole xs)) c.in_ok-table.ensures.items in
+    let first : get_or lefts (whole c.least-row.result) 0 ≡ 0 =
+    ap (λ i. get_or lefts i 0) c.least-row.ensures ∙ omega (arith, c.requires.searchable.begins) in
+    let words = no-words (slot_width g.row.PRECISION g.row.SLOT_BITS) lefts (map whole table) _ none first in (
+      omega (arith, c.least-row.ensures),
+      omega (arith, c.least-row.ensures, c.requires.searchable.some, length-map entries g.Kind.CdfEntry.cumulative),
+      words.0,
+      rw (length-map table whole) at words.1,
+      omega (arith, c.in_ok-table.ensures.capacity, c.saturating_add.ensures, c.words_of_table-words.type_inv),
+    )
+
+pub fill-requires-clause-room : goal.fill-requires-clause-room
+fill-requires-clause-room g c = c.rows.invariant.4
