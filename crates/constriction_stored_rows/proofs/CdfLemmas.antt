@@ -1,13 +1,13 @@
 -- Tables that end with the total, and differences of their neighbours.
-use Rattle.std.proofs.Common.{◌≡◌, ℕ, ◌+◌, ◌-◌, ◌%◌, ◌^◌, ◌<◌, ◌≤◌, List, [], ◌∷◌, ◌++◌, length, get_or, refl, ap, sym, ◌∙◌, arith, inl, inr}
+use Rattle.std.proofs.Common.{◌≡◌, ◌↔◌, ℕ, ◌+◌, ◌-◌, ◌%◌, ◌^◌, ◌<◌, ◌≤◌, List, [], ◌∷◌, ◌++◌, length, get_or, map, refl, ap, sym, ◌∙◌, subst, arith, inl, inr}
 use Rattle.std.specs.Prelude.{take}
 use Rattle.std.proofs.Math.Nat.{mod-eq_of_lt, pow-le-pow_right}
 use Rattle.std.proofs.Math.Seq.{take-append_seam}
 use Rattle.std.proofs.lemmas.Bool.{cases_lt}
-use Rattle.std.proofs.lemmas.List.{length-append, get_or_append_left, get_or-append_right}
+use Rattle.std.proofs.lemmas.List.{length-append, get_or_append_left, get_or-append_right, map_push, same_from_push}
 use Rattle.constriction_model.specs.Acceptance.{IsAccepted}
 use Rattle.constriction_model.proofs.Differences.{difference-mod}
-use Rattle.constriction_stored_rows.specs.Stored.{IsCdf, lefts_in, lefts_from, weights_of}
+use Rattle.constriction_stored_rows.specs.Stored.{IsStored, IsCdf, lefts_in, lefts_from, weights_of}
 use Rattle.constriction_model.specs.Rows.{contiguous_rows}
 use Rattle.constriction_stored_rows.specs.lemmas.StoredRows.{rows-many}
 use Rattle.constriction_stored_rows.specs.lemmas.Stored.{IsRowAt, stored-row, stored-of}
@@ -26,6 +26,20 @@ cdf-of bits precision cdf ws a e =
     let lefts : lefts_in cdf ≡ lefts_from 0 ws = all-but_last (lefts_from 0 ws) cdf _ e in
     let stored = stored-of bits precision (lefts_in cdf) ws lefts a in
     (record { stored = stored.0; ends = rw lefts e }, stored.1)
+
+-- words are a cdf if the last one is the total, and those before it are the left cumulatives of accepted weights
+pub cdf-split : {W : Type 0} (whole : W → ℕ) (bits precision : ℕ) (words lefts : List W) (total : W) → words ≡ lefts ++ total ∷ []
+    → IsCdf bits precision (map whole words)
+    ↔ ((whole total ≡ 2 ^ precision % 2 ^ bits) × IsStored bits precision (map whole lefts))
+cdf-split whole bits precision words lefts total e =
+    let numbers : map whole words ≡ map whole lefts ++ whole total ∷ [] = ap (map whole) e ∙ map_push whole lefts total in (
+      (λ t.
+          let same = same_from_push (map whole lefts) _ (whole total) _ (sym numbers ∙ t.ends) in
+          (same.1, subst (IsStored bits precision) (sym same.0) t.stored)),
+      (λ h.
+          let held = all-but_last (map whole lefts) (map whole words) (whole total) numbers in
+          record { stored = rw held h.1; ends = rw held (numbers ∙ ap (λ n. map whole lefts ++ n ∷ []) h.0) }),
+    )
 
 module _ (bits precision : ℕ) (cdf : List ℕ) (t : IsCdf bits precision cdf) where
   -- a cdf has one word more than rows
