@@ -1,3 +1,6 @@
+use Rattle.std.proofs.Common.{Err, ap, ◌∙◌}
+use Rattle.std.proofs.lemmas.Result.{IfOk-from_err, err_from_is_err_and}
+use Rattle.constriction_stored_rows.proofs.FillLemmas.{table≢memory}
 use Rattle.constriction_categorical.proofs.CollectLemmas.{collected-none, collected-step, collected-repeat, collected-end}
 use Rattle.constriction_categorical.proofs.walking.entries_walked.Goals as goal
 
@@ -31,3 +34,39 @@ pub returns-clause-ok : goal.returns-clause-ok
 returns-clause-ok g c =
     collected-end g.Walk.Iterator.next_gives c.args.walk g.Symbol.PartialEq.eq g.met.Symbol.Eq.laws.symm c.rows.walk c.next.new.self
     c.rows.entries.items c.rows.invariant.2 c.in_default.ensures.steps
+
+pub returns-in_err-entries-clause-ok : goal.returns-in_err-entries-clause-ok
+returns-in_err-entries-clause-ok g c = IfOk-from_err c.from_residual.result _ c.from_residual.ensures.0
+
+pub returns-in_err-entries-clause-invalid : goal.returns-in_err-entries-clause-invalid
+returns-in_err-entries-clause-invalid g c =
+    let refused = err_from_is_err_and c.from_residual.result c.from_residual.ensures.1 in
+    λ e. absurd (table≢memory c.from_residual.result e (refused.1 ∙ ap Err refused.2))
+
+pub returns-in_err-symbol-clause-ok : goal.returns-in_err-symbol-clause-ok
+returns-in_err-symbol-clause-ok g c = IfOk-from_err c.from_residual-in_err-symbol.result _ c.from_residual-in_err-symbol.ensures.0
+
+pub returns-in_err-symbol-clause-invalid : goal.returns-in_err-symbol-clause-invalid
+returns-in_err-symbol-clause-invalid g c =
+    let refused = err_from_is_err_and c.from_residual-in_err-symbol.result c.from_residual-in_err-symbol.ensures.1 in
+    λ e. absurd (table≢memory c.from_residual-in_err-symbol.result e (refused.1 ∙ ap Err refused.2))
+
+pub returns-then-has_symbol-clause-ok : goal.returns-then-has_symbol-clause-ok
+returns-then-has_symbol-clause-ok g c = tt
+
+pub next-requires : goal.next-requires
+next-requires g c = c.rows.invariant.0
+
+pub rows-smaller : goal.rows-smaller
+rows-smaller g c = (c.in-Some.ensures.goes.on c.rows.invariant.1).2
+
+pub returns-in_err-push-clause-ok : goal.returns-in_err-push-clause-ok
+returns-in_err-push-clause-ok g c = IfOk-from_err c.from_residual-in_err-push.result _ c.from_residual-in_err-push.ensures.0
+
+pub returns-in_err-push-clause-invalid : goal.returns-in_err-push-clause-invalid
+returns-in_err-push-clause-invalid g c =
+    let refused = err_from_is_err_and c.from_residual-in_err-push.result c.from_residual-in_err-push.ensures.1 in
+    λ e. absurd (table≢memory c.from_residual-in_err-push.result e (refused.1 ∙ ap Err refused.2))
+
+pub returns-clause-invalid : goal.returns-clause-invalid
+returns-clause-invalid g c = λ e. cc
