@@ -32,3 +32,6 @@ returns g c = (
   λ _. order-all g.Symbol.Ord.cmp c.args.entries.now g.met.Symbol.Ord.total c.entries.next c.entries.invariant.so_far c.entries-test.false,
   λ _. refl,
 )
+
+pub entries-smaller : goal.entries-smaller
+entries-smaller g c = omega (arith, c.entries-test.true)

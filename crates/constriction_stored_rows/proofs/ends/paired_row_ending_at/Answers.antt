@@ -1,4 +1,4 @@
-use Rattle.std.proofs.Common.{◌≡◌, get_or, map, ap, ◌∙◌, arith}
+use Rattle.std.proofs.Common.{◌≡◌, get_or, map, ap, sym, ◌∙◌, arith}
 use Rattle.std.proofs.lemmas.List.{length-map}
 use Rattle.constriction_stored_rows.specs.Stored.{weights_of}
 use Rattle.constriction_stored_rows.specs.lemmas.Stored.{read-whole}
@@ -30,3 +30,15 @@ returns-clause-weight g c =
     (read-whole known entries c.args.index c.index-entries-index.result c.requires.in_bounds c.index-entries-index.is
     ∙ ap known c.index-entries-index.is)
     c.requires.end c.wrapping_minus.ensures.range c.wrapping_minus.ensures.difference)
+
+pub bounds-entries-index : goal.bounds-entries-index
+bounds-entries-index g c = c.requires.in_bounds
+
+pub bounds-entries-index-2 : goal.bounds-entries-index-2
+bounds-entries-index-2 g c = c.requires.in_bounds
+
+pub returns-clause-left : goal.returns-clause-left
+returns-clause-left g c =
+    let known = λ (x : g.row.Word.Denot × g.row.Symbol.Denot). g.Word.WholeNumber.whole x.0 in
+    sym (read-whole known c.args.entries.now c.args.index c.index-entries-index.result c.requires.in_bounds c.index-entries-index.is
+    ∙ ap known c.index-entries-index.is)

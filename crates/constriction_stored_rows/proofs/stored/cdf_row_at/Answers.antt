@@ -1,8 +1,8 @@
-use Rattle.std.proofs.Common.{◌≡◌, ◌+◌, ◌<◌, length, get_or, map, arith}
+use Rattle.std.proofs.Common.{◌≡◌, ◌+◌, ◌<◌, length, get_or, map, sym, ◌∙◌, arith}
 use Rattle.std.proofs.lemmas.List.{length-map}
 use Rattle.constriction_stored_rows.specs.Stored.{lefts_in, weights_of}
 use Rattle.constriction_stored_rows.specs.lemmas.Stored.{read-whole}
-use Rattle.constriction_stored_rows.proofs.CdfLemmas.{cdf-weight, cdf-row}
+use Rattle.constriction_stored_rows.proofs.CdfLemmas.{cdf-here, cdf-row, cdf-weight}
 use Rattle.constriction_stored_rows.proofs.stored.cdf_row_at.Goals as goal
 
 pub to_weight-requires : goal.to_weight-requires
@@ -29,3 +29,11 @@ returns-clause-weight g c =
     (read-whole whole words c.args.index c.index-cdf-index.result (omega (arith, c.requires.in_bounds)) c.index-cdf-index.is)
     (read-whole whole words (c.args.index + 1) c.index-cdf-index-2.result c.requires.in_bounds c.index-cdf-index-2.is)
     c.wrapping_minus.ensures.range c.wrapping_minus.ensures.difference)
+
+pub returns-clause-left : goal.returns-clause-left
+returns-clause-left g c =
+    let whole = g.Word.WholeNumber.whole in
+    let words = c.args.cdf.now in
+    let long : c.args.index + 1 < length (map whole words) = omega (arith, c.requires.in_bounds, length-map words whole) in
+    sym (read-whole whole words c.args.index c.index-cdf-index.result (omega (arith, c.requires.in_bounds)) c.index-cdf-index.is)
+    ∙ cdf-here _ g.row.PRECISION (map whole words) c.requires.cdf c.args.index long
