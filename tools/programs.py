@@ -44,10 +44,10 @@ def stop(why, said="", status=3):
     sys.exit(status)
 
 
-def need(*commands):
+def need(*commands, status=3):
     for it in commands:
         if not shutil.which(it):
-            stop(f"{it} is missing: {COMMANDS[it]}")
+            stop(f"{it} is missing: {COMMANDS[it]}", status=status)
 
 
 def crate_in(folder):
