@@ -1,4 +1,5 @@
 use Rattle.std.proofs.Common.{◌≡◌, ◌∙◌, Bool, true, false, not, refl, ap, sym, Bor}
+use Rattle.std.proofs.lemmas.Bool.{false≢true}
 use Rattle.std.specs.List.{list_any}
 use Rattle.constriction_stored_rows.proofs.SeenLemmas.{seen-none, seen-more, seen-twice, seen-all}
 use Rattle.constriction_stored_rows.proofs.apart.are_apart.Goals as goal
@@ -23,9 +24,7 @@ entries-init g c =
 
 pub returns-then-not-branch : goal.returns-then-not-branch
 returns-then-not-branch g c = (
-  λ no.
-      let bad : false ≡ true = no in
-      cc,
+  λ no. absurd (false≢true no),
   λ distinct. absurd (seen-twice {Key = Bor g.row.Symbol.Denot} g.Symbol.PartialEq.eq g.met.Symbol.Eq.laws (λ k. k.now) c.args.entries.now
       (λ q. list_any (λ (k : Bor g.row.Symbol.Denot). g.Symbol.PartialEq.eq q.now k.now) c.entries.seen.keys) c.entries.entry-index
       c.entry-item.result c.symbol_in.result c.entries.invariant c.entries-test.true c.entry-item.is c.symbol_in.ensures

@@ -1,4 +1,5 @@
-use Rattle.std.proofs.Common.{◌≡◌, ◌∙◌, true, false, refl, sym, arith}
+use Rattle.std.proofs.Common.{◌∙◌, refl, sym, arith}
+use Rattle.std.proofs.lemmas.Bool.{false≢true}
 use Rattle.constriction_stored_rows.proofs.OrderLemmas.{order-none, order-more, order-broken, order-all}
 use Rattle.constriction_stored_rows.proofs.apart.are_in_order.Goals as goal
 
@@ -10,9 +11,7 @@ overflow_sub-next g c = omega (arith, c.entries.invariant.some)
 
 pub returns-then-not-is_lt : goal.returns-then-not-is_lt
 returns-then-not-is_lt g c = (
-  λ no.
-      let bad : false ≡ true = no in
-      cc,
+  λ no. absurd (false≢true no),
   λ sorted. absurd (order-broken g.Symbol.Ord.cmp c.args.entries.now c.entries.next c.index-entries-next.result
       c.index-entries-next-in-entries.result c.entries.invariant.some c.entries-test.true
       (rw c.cmp.ensures at (sym c.is_lt.ensures ∙ c.if-not-is_lt.true)) sorted),

@@ -1,4 +1,4 @@
-use Rattle.std.proofs.Common.{map, arith}
+use Rattle.std.proofs.Common.{map}
 use Rattle.std.proofs.lemmas.Result.{IfOk-weaker}
 use Rattle.constriction_stored_rows.specs.Slots.{slot_width, slot_count}
 use Rattle.constriction_stored_rows.proofs.SlotLemmas.{begins-alone, begins-followed}
@@ -35,9 +35,6 @@ returns-then-this-eq0 g c =
     (slot_count g.row.PRECISION g.row.SLOT_BITS) (map g.Kind.CdfEntry.cumulative c.args.entries.now)
     (map g.Kind.Word.WholeNumber.whole t.items) s)
     c.slots_of.ensures
-
-pub with_cdf-requires : goal.with_cdf-requires
-with_cdf-requires g c = record { positive = omega arith; fits = c.requires.fits }
 
 pub returns : goal.returns
 returns g c =
