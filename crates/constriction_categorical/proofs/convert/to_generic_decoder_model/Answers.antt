@@ -1,5 +1,6 @@
 use Rattle.std.proofs.Common.{rules}
 use Rattle.std.proofs.lemmas.Result.{IfOk-from_err}
+use Rattle.constriction_stored_rows.proofs.FillLemmas.{accepted≢refused}
 use Rattle.constriction_categorical.proofs.convert.to_generic_decoder_model.Goals as goal
 
 pub returns-in_err-entries : goal.returns-in_err-entries
@@ -9,4 +10,4 @@ returns-in_err-entries g c = record {
 }
 
 pub returns : goal.returns
-returns g c = record { ok = rw c.decoder_over.ensures c.in_ok-entries.ensures.rows; invalid = λ e. cc }
+returns g c = record { ok = rw c.decoder_over.ensures c.in_ok-entries.ensures.rows; invalid = λ e. absurd (accepted≢refused _ _ e) }

@@ -1,6 +1,6 @@
 use Rattle.std.proofs.Common.{Err, ap, ◌∙◌}
 use Rattle.std.proofs.lemmas.Result.{IfOk-from_err, err_from_is_err_and}
-use Rattle.constriction_stored_rows.proofs.FillLemmas.{table≢memory}
+use Rattle.constriction_stored_rows.proofs.FillLemmas.{accepted≢refused, table≢memory}
 use Rattle.constriction_categorical.proofs.CollectLemmas.{collected-none, collected-step, collected-repeat, collected-end}
 use Rattle.constriction_categorical.proofs.walking.entries_walked.Goals as goal
 
@@ -54,9 +54,6 @@ returns-in_err-symbol-clause-invalid g c =
 pub returns-then-has_symbol-clause-ok : goal.returns-then-has_symbol-clause-ok
 returns-then-has_symbol-clause-ok g c = tt
 
-pub next-requires : goal.next-requires
-next-requires g c = c.rows.invariant.0
-
 pub rows-smaller : goal.rows-smaller
 rows-smaller g c = (c.in-Some.ensures.goes.on c.rows.invariant.1).2
 
@@ -69,4 +66,4 @@ returns-in_err-push-clause-invalid g c =
     λ e. absurd (table≢memory c.from_residual-in_err-push.result e (refused.1 ∙ ap Err refused.2))
 
 pub returns-clause-invalid : goal.returns-clause-invalid
-returns-clause-invalid g c = λ e. cc
+returns-clause-invalid g c = λ e. absurd (accepted≢refused _ _ e)
