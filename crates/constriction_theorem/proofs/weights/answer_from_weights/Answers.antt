@@ -1,20 +1,6 @@
-use Rattle.std.proofs.Common.{arith}
 use Rattle.std.proofs.lemmas.Result.{err_from_is_err_and}
 use Rattle.constriction_theorem.proofs.Making.{handed-on, never-invalid, whatever-ok}
 use Rattle.constriction_theorem.proofs.weights.answer_from_weights.Goals as goal
-
-pub answers_of-requires : goal.answers_of-requires
-answers_of-requires g c =
-    let range = rw c.deref.ensures.value at c.range_of-range.ensures in (
-      omega arith,
-      (
-        omega arith,
-        (
-          omega arith,
-          (c.requires.precision, rw c.in_ok-model.ensures.rows (range c.in_ok-model.ensures.accepted.tiles)),
-        ),
-      ),
-    )
 
 pub returns : goal.returns
 returns g c = record {
