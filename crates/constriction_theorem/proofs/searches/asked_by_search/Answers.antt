@@ -1,7 +1,10 @@
-use Rattle.std.proofs.Common.{◌∙◌, ap, sym}
+use Rattle.std.proofs.Common.{◌∙◌, refl, ap, sym}
 use Rattle.std.specs.Prelude.{nat_eq}
 use Rattle.constriction_model.specs.Rows.{entry_of}
 use Rattle.constriction_theorem.proofs.searches.asked_by_search.Goals as goal
+
+pub asked_beside_both-requires-2-clause-contiguous : goal.asked_beside_both-requires-2-clause-contiguous
+asked_beside_both-requires-2-clause-contiguous g c = rw c.in_ok-decoder.ensures.rows (λ s. refl)
 
 pub asked_beside_both-requires-2-clause-hashed : goal.asked_beside_both-requires-2-clause-hashed
 asked_beside_both-requires-2-clause-hashed g c = λ s.
