@@ -14,7 +14,6 @@ use std::alloc::{AllocError, Global};
 
 /// How many questions a search asks for a query: none for a symbol, and none for a word that is no
 /// quantile.
-#[tactic(auto, using(constriction_model::proofs::Digits::digits_grow))]
 fn questions_for_query<Probability: WholeNumber, const PRECISION: usize>(
     model: &Contiguous<Probability, PRECISION>,
     query: &Query<usize, Probability>,

@@ -1,14 +1,11 @@
-use Rattle.std.proofs.Common.{◌∙◌, refl, ap, sym}
-use Rattle.std.specs.Prelude.{nat_eq}
-use Rattle.constriction_model.specs.Rows.{entry_of}
+use Rattle.std.proofs.Common.{refl}
 use Rattle.constriction_theorem.proofs.searches.asked_by_search.Goals as goal
 
 pub asked_beside_both-requires-2-clause-contiguous : goal.asked_beside_both-requires-2-clause-contiguous
 asked_beside_both-requires-2-clause-contiguous g c = rw c.in_ok-decoder.ensures.rows (λ s. refl)
 
 pub asked_beside_both-requires-2-clause-hashed : goal.asked_beside_both-requires-2-clause-hashed
-asked_beside_both-requires-2-clause-hashed g c = λ s.
-    c.in_ok-hashed.ensures.entries s ∙ ap (λ rows. entry_of nat_eq rows s) (sym c.in_ok-decoder.ensures.rows)
+asked_beside_both-requires-2-clause-hashed g c = rw c.in_ok-decoder.ensures.rows c.in_ok-hashed.ensures.entries
 
 pub returns-clause-ok : goal.returns-clause-ok
 returns-clause-ok g c = record {
