@@ -1,11 +1,19 @@
 -- How the rows of a model are printed.
-use Rattle.std.proofs.Common.{refl, ◌≡◌, ℕ, ◌/◌, ◌^◌, ◌<◌, List, arith}
+use Rattle.std.proofs.Common.{refl, ◌≡◌, ℕ, ◌/◌, ◌^◌, ◌<◌, List, ◌∷◌, ◌++◌, append_assoc, arith}
 use Rattle.std.proofs.Math.Nat.{div-lt_iff_lt-mul}
 use Rattle.std.proofs.Math.Pow.{pow_pos}
 use Rattle.std.proofs.lemmas.Bool.{lt-ltb}
 use Rattle.constriction_model.specs.Rows.{Row, RowsTile, IsRowOf}
-use Rattle.constriction_text.specs.Text.{row_text, quantile_text}
+use Rattle.constriction_text.specs.Text.{row_text, rows_text, quantile_text}
 use Rattle.constriction_model.proofs.Finding.{find_row}
+
+-- a text with the line of the first row that is left, and the lines of the others, are all
+pub lines-more : (text more all : List ℕ) (first : Row ℕ) (rows left : List (Row ℕ)) (s l w : ℕ)
+    → rows ≡ first ∷ left → s ≡ first.symbol → l ≡ first.left → w ≡ first.weight
+    → more ≡ text ++ row_text (record { symbol = s; left = l; weight = w }) → text ++ rows_text rows ≡ all
+    → more ++ rows_text left ≡ all
+lines-more text more all first rows left s l w is same_symbol same_left same_weight pushed so_far =
+    rw (pushed, append_assoc, same_symbol, same_left, same_weight) (rw is at so_far)
 
 -- the line of a quantile's row is the answer
 pub quantile_line : (bits precision : ℕ) (rows : List (Row ℕ)) (q : ℕ) (r : Row ℕ) → q < 2 ^ precision
