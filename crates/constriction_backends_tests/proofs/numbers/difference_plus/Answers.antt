@@ -11,17 +11,3 @@ returns g c =
       ap g.P.WholeNumber.whole c.one.ensures ∙ P.one_law,
       P.add_law c.sub.result c.one.result c.add.result c.add.ensures,
     )
-
-pub sub-requires : goal.sub-requires
-sub-requires g c = g.met.P.BitArray.can_sub_law c.args.a c.args.b c.requires.order
-
-pub add-requires : goal.add-requires
-add-requires g c =
-    let P = g.met.P.BitArray in
-    P.can_add_law c.sub.result c.one.result (omega (
-      arith,
-      c.requires.order,
-      c.requires.room,
-      P.sub_law c.args.a c.args.b c.sub.result c.sub.ensures,
-      ap g.P.WholeNumber.whole c.one.ensures ∙ P.one_law,
-    ))

@@ -6,9 +6,3 @@ returns g c =
     let P = g.met.P.BitArray in
     P.shr_law c.sub.result 1 c.shr.result c.shr.ensures
     ∙ ap (λ n. n / 2) (P.sub_law c.args.to c.args.from c.sub.result c.sub.ensures)
-
-pub sub-requires : goal.sub-requires
-sub-requires g c = g.met.P.BitArray.can_sub_law c.args.to c.args.from c.requires.order
-
-pub shr-requires : goal.shr-requires
-shr-requires g c = g.met.P.BitArray.can_shr_law c.sub.result 1 c.requires.width
