@@ -1,4 +1,3 @@
-use Rattle.std.proofs.Common.{refl}
 use Rattle.constriction_theorem.proofs.weights.asked_by_dividing.Goals as goal
 
 pub asked_by_division-requires-clause-some : goal.asked_by_division-requires-clause-some
@@ -11,11 +10,6 @@ pub asked_by_division-requires-clause-hashed : goal.asked_by_division-requires-c
 asked_by_division-requires-clause-hashed g c =
     let rows = (rw c.in-Some.is at c.requires.range).2 in
     rw rows at c.requires.hashed
-
-pub returns-in_ok-replies-in-Some-clause-divides : goal.returns-in_ok-replies-in-Some-clause-divides
-returns-in_ok-replies-in-Some-clause-divides g c =
-    let range = rw c.in-Some.is at c.requires.range in
-    (λ some. (_, range.0, range.2), λ divides. refl)
 
 pub returns-in_ok-replies-in-Some-clause-dividing : goal.returns-in_ok-replies-in-Some-clause-dividing
 returns-in_ok-replies-in-Some-clause-dividing g c =
