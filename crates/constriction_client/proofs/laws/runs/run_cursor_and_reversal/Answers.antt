@@ -16,9 +16,6 @@ pub returns-in_err-replies-clause-reversed_kept : goal.returns-in_err-replies-cl
 returns-in_err-replies-clause-reversed_kept g c =
     sym (g.met.Turned.SafeBufMut.unchanged (buf_of c.args.reversed.now.0))
 
-pub returns-in_err-others-clause-kept : goal.returns-in_err-others-clause-kept
-returns-in_err-others-clause-kept g c = sym (g.met.Buf.SafeBufMut.unchanged (buf_of c.args.cursor.now))
-
 pub returns-in_err-others-clause-reversed_kept : goal.returns-in_err-others-clause-reversed_kept
 returns-in_err-others-clause-reversed_kept g c =
     sym (g.met.Turned.SafeBufMut.unchanged (buf_of c.args.reversed.now.0))
